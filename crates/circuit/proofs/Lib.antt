@@ -1,0 +1,4 @@
+pub mod Finding
+pub mod Gathering
+pub mod Settling
+pub mod Soundness

@@ -1,0 +1,12 @@
+pub mod Runs
+pub mod Faults
+pub mod Names
+pub mod Circuits
+pub mod Named
+pub mod Record
+pub mod Rows
+pub mod Judge
+pub mod Reading
+pub mod Drafts
+pub mod Listings
+pub mod Accepts

@@ -1,0 +1,4 @@
+pub mod Classes
+pub mod Cuts
+pub mod Naming
+pub mod Yielding
