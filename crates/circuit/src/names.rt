@@ -23,13 +23,13 @@ pub(crate) fn find(text: &[u8], names: &[Span], name: &[u8]) -> Option<Net>
 
 // The names of a circuit, by the text that it was read from.
 #[derive(Clone, Copy)]
-pub struct Names<'a> {
-    circuit: &'a Circuit,
-    text: &'a [u8],
+pub struct Names<'c, 't> {
+    circuit: &'c Circuit,
+    text: &'t [u8],
 }
 
-impl<'a> Names<'a> {
-    pub fn new(circuit: &'a Circuit, text: &'a [u8]) -> Names<'a>
+impl<'c, 't> Names<'c, 't> {
+    pub fn new(circuit: &'c Circuit, text: &'t [u8]) -> Names<'c, 't>
         ensures circuit { λ r. ⌜ r .circuit ≡ circuit .entry ⌝ }
         ensures text { λ r. ⌜ r .text ≡ text .entry ⌝ }
     {
@@ -45,7 +45,7 @@ impl<'a> Names<'a> {
     }
 
     // The name of a net, empty where there is none.
-    pub fn name(self, net: Net) -> &'a [u8]
+    pub fn name(self, net: Net) -> &'t [u8]
         ensures { λ r. ⌜ now r ≡ nameAt (namesIn (self .entry)) net ⌝ }
     {
         let i = net.0 as usize;

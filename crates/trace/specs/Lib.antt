@@ -1,0 +1,11 @@
+pub mod Layout
+pub mod Coming
+pub mod Texts
+pub mod Traces
+pub mod Readings
+pub mod Seen
+pub mod Faults
+pub mod Recordings
+pub mod Outcomes
+pub mod Writing
+pub mod Laws
