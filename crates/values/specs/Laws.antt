@@ -1,6 +1,6 @@
 -- What the operations of a kind of values keep to.
 use mathlib.Core.Path.{_≡_}
-use mathlib.Core.Bool.{Bool, true, false, not, _&&_}
+use mathlib.Core.Bool.{Bool, true, not, _&&_}
 use Rattle.circuit.specs.Runs.{differ}
 
 -- A kind of values: which bits each stands for, and the operations.

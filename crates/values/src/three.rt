@@ -1,6 +1,7 @@
 // Three-way values: a bit, or not known which.
 ghost use mathlib.Core.Path.{_≡_};
-ghost use Rattle.values.specs.Threes.{threes, threeLaws, isOne};
+ghost use Rattle.values.specs.ThreeLaws.{threeLaws};
+ghost use Rattle.values.specs.Threes.{threes, isOne};
 use crate::kind::Kind;
 
 // `Zero` and `One` stand for their bit alone, and `U` stands for both bits.

@@ -1,0 +1,6 @@
+pub mod Rules
+pub mod Calls
+pub mod Related
+pub mod Theorems
+pub mod Worked
+pub mod Reworked
