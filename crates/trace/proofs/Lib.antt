@@ -6,3 +6,7 @@ pub mod Numbering
 pub mod Backs
 pub mod Outcome
 pub mod Recorded
+pub mod Trying
+pub mod Entering
+pub mod Certainly
+pub mod Keptly

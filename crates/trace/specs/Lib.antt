@@ -9,3 +9,7 @@ pub mod Recordings
 pub mod Outcomes
 pub mod Writing
 pub mod Laws
+pub mod Dashes
+pub mod Dashing
+pub mod Fillings
+pub mod Keeping

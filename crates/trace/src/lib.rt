@@ -3,6 +3,8 @@ mod calls;
 mod entries;
 mod entry;
 pub mod fault;
+pub mod goal;
+mod keep;
 mod read;
 mod reading;
 pub mod recording;
