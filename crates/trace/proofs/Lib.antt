@@ -10,3 +10,4 @@ pub mod Trying
 pub mod Entering
 pub mod Certainly
 pub mod Keptly
+pub mod Spreading

@@ -13,3 +13,4 @@ pub mod Dashes
 pub mod Dashing
 pub mod Fillings
 pub mod Keeping
+pub mod Laid

@@ -34,7 +34,7 @@ fn frame_of(entry: Entry) -> Frame
 }
 
 // Where the entry stands among cells by frame and net.
-fn place_of(circuit: &Circuit, entry: Entry) -> usize
+pub(crate) fn place_of(circuit: &Circuit, entry: Entry) -> usize
     ensures { λ r. ⌜ r ≡ placeOf (length (netsOf (now (circuit .entry)))) entry ⌝ }
 {
     frame_of(entry).0 as usize * circuit.len() + entry.net.0 as usize

@@ -5,6 +5,7 @@ mod entry;
 pub mod fault;
 pub mod goal;
 mod keep;
+mod laying;
 mod read;
 mod reading;
 pub mod recording;

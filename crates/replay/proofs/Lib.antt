@@ -1,0 +1,4 @@
+pub mod Targets
+pub mod Cells
+pub mod Placing
+pub mod Meaning
