@@ -2,10 +2,10 @@
 use mathlib.Core.Path.{_≡_, refl, sym, ap, subst, _∙_}
 use mathlib.Core.Bool.{Bool, true, false, cond, _&&_}
 use mathlib.Core.Logic.{inl, inr}
-use mathlib.Core.List.{List, [], _∷_, _++_, map}
+use mathlib.Core.List.{List, [], _∷_, _++_}
 use Prim.Native.Nat.{ℕ, zero, suc, _+_, _≤_, _<_}
 use native.Mathlib.Omega.{arith}
-use lib.Dec.{ltb, eqb}
+use lib.Dec.{ltb}
 use lib.ListN.{length, getD}
 use Rattle.std.specs.Options.{isSome}
 use Rattle.std.specs.Results.{isErr}
@@ -16,23 +16,23 @@ use Rattle.std.specs.declared.result.Result.the-variants.{Ok, Err}
 use Rattle.std.specs.shelf.Text.{sameBytes}
 use Rattle.std.proofs.shelf.Lists.{length-push, getD-append-left, getD-push}
 use Rattle.std.proofs.shelf.Equals.{sameBytes-decides}
-use Rattle.std.proofs.shelf.Tests.{cases-lt, and-from, and-parts, lt-ltb, ltb-true, eqb-false, cases-bool, cond-true, cond-false, false≢true}
+use Rattle.std.proofs.shelf.Tests.{cases-lt, and-from, and-parts, lt-ltb, ltb-true, ltb-false, eqb-false, cases-bool, cond-true, cond-false, false≢true}
 use Rattle.circuit.specs.declared.nets.Net.{Net}
 use Rattle.circuit.specs.declared.nets.NetKind.{NetKind}
 use Rattle.circuit.specs.declared.nets.NetKind.the-variants.{Input, Latch, And, Xor, Not}
-use Rattle.circuit.specs.declared.fault.ReadFault.{ReadFault}
 use Rattle.circuit.specs.declared.fault.Refusal.{Refusal}
-use Rattle.circuit.specs.declared.fault.Refusal.the-variants.{BadName, NameTaken, TooManyLines, LineOpen}
+use Rattle.circuit.specs.declared.fault.Refusal.the-variants.{TooManyLines, LineOpen}
 use Rattle.circuit.specs.declared.nets.Start.{Start}
 use Rattle.text.specs.declared.class.Class.the-variants.{Feed}
 use Rattle.text.specs.Cut.{cut}
 use Rattle.text.specs.Name.{isName}
-use Rattle.circuit.specs.Judge.{Drafted, done, waits, Kept, startOf, started, pair, pairOf, gate, inverse, fitted, under, judgedRow, judged, namesGood}
+use Rattle.circuit.specs.Judge.{Drafted, done, waits, Kept, startOf, started, pair, gate, inverse, fitted, under, judgedRow, judged, namesGood}
 use Rattle.circuit.specs.Names.{net, placeFrom, GoodNames}
 use Rattle.circuit.specs.Faults.{fault}
 use Rattle.circuit.specs.Runs.{kind, placed, WellFormed}
 use Rattle.circuit.specs.Reading.{State, nothing, grown, added, full, taken, closing, gather, gathered, andThen, latched, settled, resolve, Named, named, reading, outcome}
 use Rattle.circuit.specs.Record.{Said, input, latch, and, xor, not, Line, rowOf}
+use Rattle.circuit.proofs.Places.{no-some, place-back}
 
 -- the net with number i among n, where it may stand
 abbrev pub sits : ℕ → ℕ → NetKind → Bool
@@ -43,13 +43,10 @@ abbrev pub allSit : ℕ → ℕ → List NetKind → Bool
 allSit i n [] = true
 allSit i n (k ∷ ks) = sits i n k && allSit (suc i) n ks
 
-no-ok : {A E : Type 0} (e : E) (x : A) → _≡_ {A = Result A E} (Err e) (Ok x) → ⊥
+pub no-ok : {A E : Type 0} (e : E) (x : A) → _≡_ {A = Result A E} (Err e) (Ok x) → ⊥
 no-ok e x p = let z : _≡_ {A = ℕ} 0 1 = cc in omega arith
 
-no-some : {A : Type 0} (x : A) → _≡_ {A = Option A} None (Some x) → ⊥
-no-some x p = let z : _≡_ {A = ℕ} 0 1 = cc in omega arith
-
-same-ok : {A E : Type 0} (x y : A) → _≡_ {A = Result A E} (Ok x) (Ok y) → x ≡ y
+pub same-ok : {A E : Type 0} (x y : A) → _≡_ {A = Result A E} (Ok x) (Ok y) → x ≡ y
 same-ok x y p = cc
 
 -- a sequence that ends well went well in both parts
@@ -59,12 +56,7 @@ then-ok (Err e) f y p = absurd (no-ok e y p)
 
 -- a name that is found stands among the names
 pub found-below : (i : ℕ) (n : List ℕ) (ms : List (List ℕ)) (x : Net) → placeFrom i n ms ≡ Some x → x .0 < i + length ms
-found-below i n [] x p = absurd (no-some x p)
-found-below i n (m ∷ ms) x p =
-    (elim (sameBytes m n) as (λ t. cond t (Some (net i)) (placeFrom (suc i) n ms) ≡ Some x → x .0 < i + suc (length ms)) [
-      | true ↦ λ q. let e : net i ≡ x = cc in omega (arith, ap (λ (y : Net). y .0) e)
-      | false ↦ λ q. omega (arith, found-below (suc i) n ms x q)
-    ]) p
+found-below i n ms x p = let r = place-back i ms n x p in omega (arith, r .1, r .2)
 
 -- a draft with number i: a gate's operands stand before it
 abbrev pub draftSits : ℕ → Drafted → Bool
@@ -100,22 +92,6 @@ fitted-sits ns (latch a s) d q = started-sits (length ns) a (startOf s) d q
 fitted-sits ns (and a b) d q = gate-sits And (length ns) (two (length ns)) (placeFrom 0 a ns) (placeFrom 0 b ns) (known ns a) (known ns b) d q
 fitted-sits ns (xor a b) d q = gate-sits Xor (length ns) (two (length ns)) (placeFrom 0 a ns) (placeFrom 0 b ns) (known ns a) (known ns b) d q
 fitted-sits ns (not a) d q = inverse-sits (length ns) (placeFrom 0 a ns) (known ns a) d q
-
-under-ok : (n : List ℕ) (r : Result Drafted Refusal) (k : Kept) → under n r ≡ Ok k → r ≡ Ok (k .draft)
-under-ok n (Ok d) k q = ap (λ (x : Kept). Ok (x .draft)) (same-ok _ k q)
-under-ok n (Err e) k q = absurd (no-ok e k q)
-
-judged-sits : (ns : List (List ℕ)) (o : Option Line) (k : Kept) → judgedRow ns o ≡ Ok k → draftSits (length ns) (k .draft) ≡ true
-judged-sits ns None k q = absurd (no-ok _ k q)
-judged-sits ns (Some l) k q =
-    (elim (namesGood (l .name) (l .said)) as (λ t. cond t (cond (isSome (placeFrom 0 (l .name) ns)) (Err NameTaken) (under (l .name) (fitted ns (l .said)))) (Err BadName) ≡ Ok k → draftSits (length ns) (k .draft) ≡ true) [
-      | true ↦
-          elim (isSome (placeFrom 0 (l .name) ns)) as (λ t. cond t (Err NameTaken) (under (l .name) (fitted ns (l .said))) ≡ Ok k → draftSits (length ns) (k .draft) ≡ true) [
-            | true ↦ λ p. absurd (no-ok _ k p)
-            | false ↦ λ p. fitted-sits ns (l .said) (k .draft) (under-ok (l .name) (fitted ns (l .said)) k p)
-          ]
-      | false ↦ λ p. absurd (no-ok _ k p)
-    ]) q
 
 -- lists grow at their end
 draft-push : (i : ℕ) (ds : List Drafted) (d : Drafted) → allDraft i ds ≡ true → draftSits (i + length ds) d ≡ true → allDraft i (ds ++ d ∷ []) ≡ true
@@ -163,13 +139,14 @@ not-found : (o : Option Net) → isSome o ≡ false → o ≡ None
 not-found None e = refl
 not-found (Some x) e = absurd (false≢true (sym e))
 
-under-name : (n : List ℕ) (r : Result Drafted Refusal) (k : Kept) → under n r ≡ Ok k → n ≡ k .name
-under-name n (Ok d) k q = ap (λ (x : Kept). x .name) (same-ok _ k q)
-under-name n (Err e) k q = absurd (no-ok e k q)
+under-ok : (n : List ℕ) (r : Result Drafted Refusal) (k : Kept) → under n r ≡ Ok k → (r ≡ Ok (k .draft)) × (n ≡ k .name)
+under-ok n (Ok d) k q = let is = same-ok _ k q in (ap (λ (x : Kept). Ok (x .draft)) is, ap (λ (x : Kept). x .name) is)
+under-ok n (Err e) k q = absurd (no-ok e k q)
 
-judged-named : (ns : List (List ℕ)) (o : Option Line) (k : Kept) → judgedRow ns o ≡ Ok k → (isName (k .name) ≡ true) × (placeFrom 0 (k .name) ns ≡ None)
-judged-named ns None k q = absurd (no-ok _ k q)
-judged-named ns (Some l) k q =
+-- a line that is kept: its name is good and new, and its net fits
+pub judged-ok : (ns : List (List ℕ)) (o : Option Line) (k : Kept) → judgedRow ns o ≡ Ok k → (l : Line) × (o ≡ Some l) × (l .name ≡ k .name) × (fitted ns (l .said) ≡ Ok (k .draft)) × (isName (k .name) ≡ true) × (placeFrom 0 (k .name) ns ≡ None)
+judged-ok ns None k q = absurd (no-ok _ k q)
+judged-ok ns (Some l) k q =
     elim (cases-bool (namesGood (l .name) (l .said))) [
       | inr e ↦ absurd (no-ok _ k (sym (cond-false _ _ _ e) ∙ q))
       | inl e ↦
@@ -177,8 +154,8 @@ judged-named ns (Some l) k q =
           elim (cases-bool (isSome (placeFrom 0 (l .name) ns))) [
             | inl f ↦ absurd (no-ok _ k (sym (cond-true _ _ _ f) ∙ p))
             | inr f ↦
-                let is = under-name (l .name) (fitted ns (l .said)) k (sym (cond-false _ _ _ f) ∙ p) in
-                (ap isName (sym is) ∙ and-parts (isName (l .name)) _ e .0, ap (λ n. placeFrom 0 n ns) (sym is) ∙ not-found _ f)
+                let is = under-ok (l .name) (fitted ns (l .said)) k (sym (cond-false _ _ _ f) ∙ p) in
+                (l, refl, is .1, is .0, ap isName (sym (is .1)) ∙ and-parts (isName (l .name)) _ e .0, ap (λ n. placeFrom 0 n ns) (sym (is .1)) ∙ not-found _ f)
           ]
     ]
 
@@ -192,22 +169,25 @@ added-ok : (s : State) (r : Result Kept Refusal) (n : State) → added s r ≡ O
 added-ok s (Ok k) n q = (k, refl, same-ok _ n q)
 added-ok s (Err e) n q = absurd (no-ok _ n q)
 
-taken-good : (s : State) (l : List ℕ) (n : State) → Good s → taken s l ≡ Ok n → Good n
-taken-good s l n g q =
+-- a line that is taken: there is room, and it is kept
+pub taken-ok : (s : State) (l : List ℕ) (n : State) → taken s l ≡ Ok n → (k : Kept) × (judged (s .names) l ≡ Ok k) × (grown s k ≡ n) × (length (s .names) ≡ 256 → ⊥)
+taken-ok s l n q =
     elim (cases-bool (full s)) [
       | inl e ↦ absurd (no-ok _ n (sym (cond-true (full s) _ _ e) ∙ q))
-      | inr e ↦
-          let a = added-ok s (judged (s .names) l) n (sym (cond-false (full s) _ _ e) ∙ q) in
-          let more = eqb-false (length (s .names)) 256 e in
-          let below : length (s .names) < 256 = omega (arith, g .few, more) in
-          let named = judged-named (s .names) (rowOf l) (a .0) (a .1) in
-          subst Good (a .2) (record {
-            names = names-push (s .names) (a .0 .name) (g .names) (named .0) (named .1);
-            level = length-push (s .names) (a .0 .name) ∙ ap (λ m. m + 1) (g .level) ∙ sym (length-push (s .drafts) (a .0 .draft));
-            few = omega (arith, length-push (s .names) (a .0 .name), below);
-            sit = draft-push 0 (s .drafts) (a .0 .draft) (g .sit) (subst (λ (j : ℕ). draftSits j (a .0 .draft) ≡ true) (omega (arith, g .level)) (judged-sits (s .names) (rowOf l) (a .0) (a .1)));
-          })
+      | inr e ↦ let a = added-ok s (judged (s .names) l) n (sym (cond-false (full s) _ _ e) ∙ q) in (a .0, a .1, a .2, eqb-false (length (s .names)) 256 e)
     ]
+
+taken-good : (s : State) (l : List ℕ) (n : State) → Good s → taken s l ≡ Ok n → Good n
+taken-good s l n g q =
+    let a = taken-ok s l n q in
+    let j = judged-ok (s .names) (rowOf l) (a .0) (a .1) in
+    let below : length (s .names) < 256 = omega (arith, g .few, a .3) in
+    subst Good (a .2) (record {
+      names = names-push (s .names) (a .0 .name) (g .names) (j .4) (j .5);
+      level = length-push (s .names) (a .0 .name) ∙ ap (λ m. m + 1) (g .level) ∙ sym (length-push (s .drafts) (a .0 .draft));
+      few = omega (arith, length-push (s .names) (a .0 .name), below);
+      sit = draft-push 0 (s .drafts) (a .0 .draft) (g .sit) (subst (λ (m : ℕ). draftSits m (a .0 .draft) ≡ true) (omega (arith, g .level)) (fitted-sits (s .names) (j .0 .said) (a .0 .draft) (j .3)));
+    })
 
 closing-good : (s : State) (t : List ℕ) (n : State) → Good s → closing s t ≡ Ok n → Good n
 closing-good s [] n g q = subst Good (same-ok s n q) g
@@ -278,16 +258,21 @@ sound text s ks g r =
       few = omega (arith, good .few, p .1);
     }
 
-pub reading-sound : (text : List ℕ) (x : Named) → reading text ≡ Ok x → Sound (x .names) (x .nets)
-reading-sound text x q =
+-- a text that is read: it is short enough, its lines are gathered, and their nexts are found
+pub reading-ok : (text : List ℕ) (x : Named) → reading text ≡ Ok x → (s : State) × (ks : List NetKind) × (length text ≤ 16384) × (gathered nothing text ≡ Ok s) × (resolve (s .names) [] (s .drafts) ≡ Ok ks) × (named (s .names) ks ≡ x)
+reading-ok text x q =
     elim (cases-bool (ltb 16384 (length text))) [
       | inl e ↦ absurd (no-ok _ x (sym (cond-true _ _ _ e) ∙ q))
       | inr e ↦
           let p = then-ok (gathered nothing text) (λ s. andThen (resolve (s .names) [] (s .drafts)) (λ ks. Ok (named (s .names) ks))) x (sym (cond-false _ _ _ e) ∙ q) in
-          let s = p .0 in
-          let r = then-ok (resolve (s .names) [] (s .drafts)) (λ ks. Ok (named (s .names) ks)) x (p .2) in
-          subst (λ (y : Named). Sound (y .names) (y .nets)) (same-ok (named (s .names) (r .0)) x (r .2)) (sound text s (r .0) (p .1) (r .1))
+          let r = then-ok (resolve (p .0 .names) [] (p .0 .drafts)) (λ ks. Ok (named (p .0 .names) ks)) x (p .2) in
+          (p .0, r .0, ltb-false 16384 (length text) e, p .1, r .1, same-ok _ x (r .2))
     ]
+
+pub reading-sound : (text : List ℕ) (x : Named) → reading text ≡ Ok x → Sound (x .names) (x .nets)
+reading-sound text x q =
+    let p = reading-ok text x q in
+    subst (λ (y : Named). Sound (y .names) (y .nets)) (p .5) (sound text (p .0) (p .1) (p .3) (p .4))
 
 -- a call that did not fail
 pub ok-outcome : {A U E : Type 0} (r : Result U E) (x : A) → false ≡ isErr r → outcome r x ≡ Ok x

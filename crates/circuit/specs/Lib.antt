@@ -7,6 +7,7 @@ pub mod Record
 pub mod Rows
 pub mod Judge
 pub mod Reading
+pub mod Written
 pub mod Drafts
 pub mod Listings
 pub mod Accepts

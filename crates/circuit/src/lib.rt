@@ -11,3 +11,5 @@ pub mod parts;
 pub mod read;
 mod record;
 mod settle;
+#[cfg(test)]
+mod tests;

@@ -50,7 +50,11 @@ impl<'c, 't> Names<'c, 't> {
     {
         let i = net.0 as usize;
         let names = self.circuit.listing.names.as_slice();
-        if i < names.len() { names[i].of(self.text) } else { b"" }
+        if i < names.len() {
+            names[i].of(self.text)
+        } else {
+            b""
+        }
     }
 
     // The net of that name.

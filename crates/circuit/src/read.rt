@@ -3,7 +3,7 @@ ghost use mathlib.Core.Path.{_≡_};
 ghost use mathlib.Core.List.{[], map};
 ghost use Prim.Native.Nat.{_≤_};
 ghost use Rattle.std.specs.Of.Vec.{vec-items, vec-cap};
-ghost use Rattle.circuit.specs.Accepts.{Reads};
+ghost use Rattle.circuit.specs.Accepts.{Reads, Accepts};
 ghost use Rattle.circuit.specs.Drafts.{stateOf};
 ghost use Rattle.circuit.specs.Reading.{outcome, reading, named};
 use crate::circuit::Circuit;
@@ -37,9 +37,9 @@ impl Listing {
 }
 
 impl Circuit {
-    // Reads a text. A refused reading leaves a circuit of no nets.
-    pub fn read(&mut self, text: &[u8]) -> Result<(), ReadFault>
-        ensures reads { λ r. ⌜ Reads r (now (text .entry)) (now (self .exit)) ⌝ }
+    // Puts the nets of a text in place of those that it has. A refused text leaves none.
+    fn replace(&mut self, text: &[u8]) -> Result<(), ReadFault>
+        ensures { λ r. ⌜ Reads r (now (text .entry)) (now (self .exit)) ⌝ }
     {
         self.nets.clear();
         let r = self.listing.read(text, &mut self.nets);
@@ -48,5 +48,13 @@ impl Circuit {
             self.listing.clear();
         }
         r
+    }
+
+    // Reads a text: what writing gives for a circuit, and nothing else. A refused reading leaves a circuit of no nets.
+    pub fn read(&mut self, text: &[u8]) -> Result<(), ReadFault>
+        ensures reads { λ r. ⌜ Reads r (now (text .entry)) (now (self .exit)) ⌝ }
+        ensures accepts { λ r. ⌜ Accepts r (now (text .entry)) (now (self .exit)) ⌝ }
+    {
+        self.replace(text)
     }
 }

@@ -96,7 +96,10 @@ fn show(rt: &LibcRuntime, report: Report) -> Result<(), AnyError> {
     let frames = report.frames;
     let dashes = report.dashes;
     let answer = answer_word(report.answer);
-    println!(rt, "nets {nets}, frames {frames}, dashes {dashes}: {answer}")?;
+    println!(
+        rt,
+        "nets {nets}, frames {frames}, dashes {dashes}: {answer}"
+    )?;
     Ok(())
 }
 

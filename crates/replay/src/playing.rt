@@ -40,12 +40,7 @@ pub(crate) fn lay(recording: &Recording, cells: &mut Vec<Three>, count: usize)
 }
 
 // Works out the frames, and tells the target's value in the last one.
-fn target_value<K: Kind>(
-    circuit: &Circuit,
-    hold: Option<Hold>,
-    cells: &mut [K],
-    goal: Goal,
-) -> K
+fn target_value<K: Kind>(circuit: &Circuit, hold: Option<Hold>, cells: &mut [K], goal: Goal) -> K
     requires { ⌜ Ready (netsOf (now circuit)) goal (length (now cells)) ⌝ }
     ensures { λ r. ⌜ r ≡ worked algebra (netsOf (now (circuit .entry))) hold (grid algebra (length (netsOf (now (circuit .entry)))) (now (cells .entry))) (goal .last .0) (goal .target .0) ⌝ }
 {

@@ -1,4 +1,5 @@
 pub mod Classes
 pub mod Cuts
+pub mod Joins
 pub mod Naming
 pub mod Yielding

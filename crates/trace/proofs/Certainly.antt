@@ -79,11 +79,14 @@ module _ (nets : List NetKind) (formed : WellFormed nets) (g : Goal) (inside : g
 
   pub certain : Certain nets trace
   certain = record {
-    gives = λ β fills. (worked bits nets None β, record {
-      run = rules-make-runs nets β (g .last .0) (worked bits nets None β) (worked-follows bits nets formed None β (g .last .0 + 1));
-      carries = carried-all (entries nets (g .last .0)) β (worked bits nets None β) (carried β (entries nets (g .last .0)) (all-open nets (g .last .0)));
-      on = shows-on β (worked bits nets None β) fills (worked-follows bits nets formed None β (g .last .0 + 1));
-    });
+    gives = λ β fills. (
+      worked bits nets None β,
+      record {
+        run = rules-make-runs nets β (g .last .0) (worked bits nets None β) (worked-follows bits nets formed None β (g .last .0 + 1));
+        carries = carried-all (entries nets (g .last .0)) β (worked bits nets None β) (carried β (entries nets (g .last .0)) (all-open nets (g .last .0)));
+        on = shows-on β (worked bits nets None β) fills (worked-follows bits nets formed None β (g .last .0 + 1));
+      },
+    );
     always = λ ρ run fills. shows-on ρ ρ fills (runs-follow nets (g .last .0) ρ run);
   }
 

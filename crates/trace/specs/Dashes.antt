@@ -78,5 +78,5 @@ keptTrace nets g solution =
     record {
       last = g .last .0;
       target = g .target;
-      values = map (givenAt (dashed nets g (entries nets (g .last .0)) (lifted (length nets) solution))) (entries nets (g .last .0))
+      values = map (givenAt (dashed nets g (entries nets (g .last .0)) (lifted (length nets) solution))) (entries nets (g .last .0));
     }

@@ -125,11 +125,6 @@ impl Recording {
         let Some(trace) = self.trace() else {
             return Err(WriteFault::NoTrace);
         };
-        write_named(
-            Names::new(spare, text),
-            self.circuit.nets(),
-            trace,
-            out,
-        )
+        write_named(Names::new(spare, text), self.circuit.nets(), trace, out)
     }
 }

@@ -59,12 +59,7 @@ pub(crate) fn put_head<S: Sink>(sink: &mut S, names: Names, entry: Entry) -> Res
     }
 }
 
-fn put_line<S: Sink>(
-    sink: &mut S,
-    names: Names,
-    entry: Entry,
-    value: Three,
-) -> Result<(), Refused>
+fn put_line<S: Sink>(sink: &mut S, names: Names, entry: Entry, value: Three) -> Result<(), Refused>
     ensures puts { λ r. ⌜ Puts (meaning (now (sink .entry))) (meaning (now (sink .exit))) (line (namesIn (names .entry)) entry value) r ⌝ }
     ensures home { λ _. ⌜ home (now (sink .exit)) ≡ home (now (sink .entry)) ⌝ }
 {

@@ -15,8 +15,8 @@ Inv-loop-entry l =
     (length (l .cells) ≡ length (l .entry .cells))
     × All (OpenEntry (netsOf (l .circuit)) (l .goal .last .0)) (left (l .coming))
     × ((G : Given Three) → Worked (netsOf (l .circuit)) (l .goal) G (l .entry .cells)
-      → (H : Given Three) × Worked (netsOf (l .circuit)) (l .goal) H (l .cells)
-        × (dashed (netsOf (l .circuit)) (l .goal) (left (l .coming)) H ≡ dashed (netsOf (l .circuit)) (l .goal) (entries (netsOf (l .circuit)) (l .goal .last .0)) G))
+    → (H : Given Three) × Worked (netsOf (l .circuit)) (l .goal) H (l .cells)
+    × (dashed (netsOf (l .circuit)) (l .goal) (left (l .coming)) H ≡ dashed (netsOf (l .circuit)) (l .goal) (entries (netsOf (l .circuit)) (l .goal .last .0)) G))
 
 abbrev pub μ-loop-entry : given.MeasureT-loop-entry
 μ-loop-entry l = length (left (l .coming))

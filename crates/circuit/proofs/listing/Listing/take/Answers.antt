@@ -12,7 +12,7 @@ pub returns-in-Ok : need.returns-in-Ok
 returns-in-Ok c =
     record {
       is = take-added (c .args .line .text .now) (c .args .self .now) (c .len .result) (c .args .number) (c .len .ensures) (c .pre) (left (c .args .line)) (c .as-slice .result .now) (c .as-slice .ensures .value) (c .if-len-eq-MOST-NETS .left)
-      (c .in-Ok .entry) (c .in-Ok .ensures tt) (c .add .last .self) (c .add .ensures .names) (c .add .ensures .drafts);
+          (c .in-Ok .entry) (c .in-Ok .ensures tt) (c .add .last .self) (c .add .ensures .names) (c .add .ensures .drafts);
       len = omega (arith, c .add .ensures .len, c .pre);
     }
 
@@ -20,6 +20,6 @@ pub returns-in-Err : need.returns-in-Err
 returns-in-Err c =
     record {
       is = take-refused (c .args .line .text .now) (c .args .self .now) (c .len .result) (c .args .number) (c .len .ensures) (c .pre) (left (c .args .line)) (c .as-slice .result .now) (c .as-slice .ensures .value) (c .if-len-eq-MOST-NETS .left)
-      (c .in-Err .refusal) (c .in-Err .ensures tt);
+          (c .in-Err .refusal) (c .in-Err .ensures tt);
       len = tt;
     }
