@@ -39,6 +39,8 @@ use Rattle.trace.specs.declared.fault.WriteFault.the-variants.{Circuit, NoNet,
 use Rattle.trace.specs.Writing.{covered, named, sized, writing, writes, heldText, written}
 use Rattle.circuit.specs.declared.fault.ReadFault.{ReadFault}
 use Rattle.circuit.specs.Reading.{Named, reading}
+use Rattle.text.proofs.Joins.{noneOf, stop-at, tab-is, feed-is, name-free}
+use Rattle.circuit.proofs.Places.{place-there, place-back}
 use Rattle.circuit.proofs.Soundness.{reading-sound}
 use Rattle.sinks.proofs.Puttings.{strip-front}
 use Rattle.trace.proofs.Numbering.{at, then-some, decimals}
@@ -135,16 +137,6 @@ lines-back ns us (e ∷ es) text ws q =
     (t .value ∷ r .0, r .1 ∙ append-assoc us (t .value ∷ []) (r .0), ap suc (r .2), line-back ns e text t (p .1) ∙ ap (λ s. line ns e (t .value) ++ s) (r .3))
 
 -- ---- what a byte of a class closes
-abbrev noneOf : Class → List ℕ → Bool
-noneOf k [] = true
-noneOf k (b ∷ bs) = not (same (classOf b) k) && noneOf k bs
-
-stop-at : (k : Class) (a : List ℕ) (b : ℕ) (rest : List ℕ) → noneOf k a ≡ true → same (classOf b) k ≡ true → stop k (a ++ b ∷ rest) ≡ length a
-stop-at k [] b rest n s = cond-true _ _ _ s
-stop-at k (x ∷ a) b rest n s =
-    let p = and-parts (not (same (classOf x) k)) (noneOf k a) n in
-    cond-false _ _ _ (not-true (same (classOf x) k) (p .0)) ∙ ap suc (stop-at k a b rest (p .1) s)
-
 field-there : (k : Class) (a : List ℕ) (b : ℕ) (rest : List ℕ) → noneOf k a ≡ true → same (classOf b) k ≡ true → fieldAt k (a ++ b ∷ rest) ≡ Some (record { part = a; rest = rest })
 field-there k a b rest n s =
     let all = a ++ b ∷ rest in
@@ -183,76 +175,8 @@ field-back k s p e =
     (cases-bool (ltb (stop k s) (length s)))
 
 -- ---- tabs and feeds
-either : (t : Bool) (x y k : Class) → same (cond t x y) k ≡ true → ((t ≡ true) × (same x k ≡ true)) ⊎ (same y k ≡ true)
-either true x y k e = inl (refl, e)
-either false x y k e = inr e
-
-tab-is : (b : ℕ) → same (classOf b) Tab ≡ true → b ≡ 9
-tab-is b e =
-    ⊎-elim (λ p. absurd (false≢true (p .1)))
-    (λ f. ⊎-elim (λ p. absurd (false≢true (p .1)))
-    (λ g. ⊎-elim (λ p. absurd (false≢true (p .1)))
-    (λ h. ⊎-elim (λ p. eqb-true b 9 (p .0))
-    (λ i. ⊎-elim (λ p. absurd (false≢true (p .1))) (λ j. absurd (false≢true j)) (either (eqb b 10) Feed Other Tab i))
-    (either (eqb b 9) Tab (cond (eqb b 10) Feed Other) Tab h))
-    (either (eqb b 95) Underscore (cond (eqb b 9) Tab (cond (eqb b 10) Feed Other)) Tab g))
-    (either (within 48 57 b) Digit (cond (eqb b 95) Underscore (cond (eqb b 9) Tab (cond (eqb b 10) Feed Other))) Tab f))
-    (either (within 97 122 b) Letter (cond (within 48 57 b) Digit (cond (eqb b 95) Underscore (cond (eqb b 9) Tab (cond (eqb b 10) Feed Other)))) Tab e)
-
-feed-is : (b : ℕ) → same (classOf b) Feed ≡ true → b ≡ 10
-feed-is b e =
-    ⊎-elim (λ p. absurd (false≢true (p .1)))
-    (λ f. ⊎-elim (λ p. absurd (false≢true (p .1)))
-    (λ g. ⊎-elim (λ p. absurd (false≢true (p .1)))
-    (λ h. ⊎-elim (λ p. absurd (false≢true (p .1)))
-    (λ i. ⊎-elim (λ p. eqb-true b 10 (p .0)) (λ j. absurd (false≢true j)) (either (eqb b 10) Feed Other Feed i))
-    (either (eqb b 9) Tab (cond (eqb b 10) Feed Other) Feed h))
-    (either (eqb b 95) Underscore (cond (eqb b 9) Tab (cond (eqb b 10) Feed Other)) Feed g))
-    (either (within 48 57 b) Digit (cond (eqb b 95) Underscore (cond (eqb b 9) Tab (cond (eqb b 10) Feed Other))) Feed f))
-    (either (within 97 122 b) Letter (cond (within 48 57 b) Digit (cond (eqb b 95) Underscore (cond (eqb b 9) Tab (cond (eqb b 10) Feed Other)))) Feed e)
-
-name-byte : (c : Class) → inNames c ≡ true → not (same c Feed) ≡ true
-name-byte Letter e = refl
-name-byte Digit e = refl
-name-byte Underscore e = refl
-name-byte Tab e = refl
-name-byte Feed e = absurd (false≢true e)
-name-byte Other e = refl
-
-no-feed : (a : List ℕ) → allInNames a ≡ true → noneOf Feed a ≡ true
-no-feed [] e = refl
-no-feed (b ∷ a) e =
-    let p = and-parts (inNames (classOf b)) (allInNames a) e in
-    and-from _ _ (name-byte (classOf b) (p .0)) (no-feed a (p .1))
-
 no-tab : (n : ℕ) → n < 64 → noneOf Tab (decimal n) ≡ true
 no-tab n h = at (λ k. noneOf Tab (decimal k)) 64 refl n h
-
--- ---- names by number
-place-there : (i : ℕ) (ns : List (List ℕ)) (k : ℕ) → k < length ns → ((j : ℕ) → j < k → getD ns j [] ≡ getD ns k [] → ⊥) → placeFrom i (getD ns k []) ns ≡ Some (net (i + k))
-place-there i [] k h f = absurd (omega arith)
-place-there i (m ∷ ms) zero h f =
-    let zeros : i ≡ i + 0 = omega arith in
-    cond-true (sameBytes m m) _ _ (sameBytes-decides m m .1 refl) ∙ ap (λ n. Some (net n)) zeros
-place-there i (m ∷ ms) (suc k) h f =
-    let other : sameBytes m (getD ms k []) ≡ false =
-    ⊎-elim (λ (t : sameBytes m (getD ms k []) ≡ true). absurd (f 0 (omega arith) (sameBytes-decides m (getD ms k []) .0 t))) (λ (t : sameBytes m (getD ms k []) ≡ false). t) (cases-bool (sameBytes m (getD ms k []))) in
-    let next : suc i + k ≡ i + suc k = omega arith in
-    cond-false _ _ _ other ∙ place-there (suc i) ms k (omega arith) (λ j l. f (suc j) (omega arith)) ∙ ap (λ n. Some (net n)) next
-
-place-back : (i : ℕ) (ns : List (List ℕ)) (n : List ℕ) (x : Net) → placeFrom i n ns ≡ Some x → (k : ℕ) × (x .0 ≡ i + k) × (k < length ns) × (getD ns k [] ≡ n)
-place-back i [] n x e = absurd (not-some x e)
-place-back i (m ∷ ms) n x e =
-    ⊎-elim
-    (λ (t : sameBytes m n ≡ true).
-    let got : Some (net i) ≡ Some x = sym (cond-true _ _ _ t) ∙ e in
-    let is : net i ≡ x = cc in
-    let num : i ≡ x .0 = ap (λ (y : Net). y .0) is in
-    (0, omega (arith, num), omega arith, sameBytes-decides m n .0 t))
-    (λ (t : sameBytes m n ≡ false).
-    let r = place-back (suc i) ms n x (sym (cond-false _ _ _ t) ∙ e) in
-    (suc (r .0), omega (arith, r .1), omega (arith, r .2), r .3))
-    (cases-bool (sameBytes m n))
 
 -- ---- the first line
 first-shape : (ns : List (List ℕ)) (k : ℕ) (x : Net) (rest : List ℕ) → firstLine ns k x ++ rest ≡ run ++ (decimal k ++ 9 ∷ (nameAt ns x ++ 10 ∷ rest))
@@ -266,7 +190,7 @@ first-there ns k x rest g short h =
     let one = strip-there run (decimal k ++ 9 ∷ (name ++ 10 ∷ rest)) in
     let two = field-there Tab (decimal k) 9 (name ++ 10 ∷ rest) (no-tab k short) refl in
     let three = decimals .there k short in
-    let four = field-there Feed name 10 rest (no-feed name good) refl in
+    let four = field-there Feed name 10 rest (name-free Feed name refl good) refl in
     let five = place-there 0 ns (x .0) h (λ j l. g .apart j (x .0) l h) in
     let zeros : 0 + x .0 ≡ x .0 = omega arith in
     ap (firstAt ns) (first-shape ns k x rest)
