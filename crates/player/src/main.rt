@@ -119,5 +119,9 @@ fn run(rt: &LibcRuntime) -> Result<(), AnyError> {
 }
 
 fn main(rt: LibcRuntime) -> Result<(), AnyError> {
-    rt.report(run(&rt))
+    let done = run(&rt);
+    if let Err(error) = &done {
+        eprintln!(rt, "player: {error}")?;
+    }
+    done
 }

@@ -1,7 +1,13 @@
 // Plain words for answers and refusals.
+ghost use mathlib.Core.Path.{_≡_};
+ghost use Prim.Native.Nat.{_<_};
+ghost use lib.ListN.{length};
+ghost use Rattle.player.specs.Words.{wordOf};
 use replay::report::Answer;
 
-pub fn answer_word(answer: Answer) -> &'static str {
+pub(crate) fn answer_word(answer: Answer) -> &'static str
+    ensures { λ r. ⌜ now r ≡ wordOf answer ⌝ }
+{
     match answer {
         Answer::On => "on",
         Answer::Off => "off",
@@ -10,7 +16,9 @@ pub fn answer_word(answer: Answer) -> &'static str {
 }
 
 // What is wrong, and what to do about it.
-pub fn sentence(number: u8) -> &'static str {
+pub(crate) fn sentence(number: u8) -> &'static str
+    ensures { λ r. ⌜ 0 < length (now r) ⌝ }
+{
     match number {
         1 => "the circuit text is longer than 16384 bytes: shorten names or split the circuit",
         2 => "the circuit has more than 256 lines: it is too large to be played",

@@ -71,7 +71,7 @@ impl Recording {
         ensures circuit { λ r. ⌜ Reads r (now (text .entry)) (now (self .exit) .circuit) ⌝ }
         ensures trace { λ _. ⌜ heldTrace (now (self .exit)) ≡ None ⌝ }
     {
-        self.held = false;
+        self.forget();
         self.circuit.read(text)
     }
 }
