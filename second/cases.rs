@@ -142,7 +142,7 @@ fn odd_hold(seed: &mut Seed, circuit: &[Fields]) -> Hold {
         b"",
         b"-",
         b" ",
-        "\u{e9}".as_bytes(),
+        b"\x7f",
         b"UP",
         b"a\tb",
         b"a\n",
