@@ -2,7 +2,7 @@
 use mathlib.Core.Path.{_≡_}
 use mathlib.Core.Bool.{cond}
 use mathlib.Core.List.{List, []}
-use Prim.Native.Nat.{ℕ, _+_, _-_}
+use Prim.Native.Nat.{ℕ, _+_, _-_, min}
 use denote.Ref.{RefT}
 use lib.ListN.{length, take, drop}
 use Rattle.text.specs.declared.class.Class.{Class}
@@ -28,9 +28,12 @@ pub record Starts (r : Reader) (text : RefT (List ℕ)) : Type 0 where
   pub place : r .place ≡ 0
   pub line : r .line ≡ 1
 
--- a reader of the part p of what s reads: where p stands in that text, it has all of p to read
+-- a reader of the part p of what s reads, cut off where that text ends; where p stands in that text, it has all of p to read
 pub record Inside (s : Reader) (p : Part) (r : Reader) : Type 0 where
   pub reads : r .text ≡ s .text
+  pub from : r .place ≡ min (p .place) (length (s .text .now))
+  pub up-to : r .end ≡ r .place + min (length (bytesOf p)) (length (s .text .now) - r .place)
+  pub on : r .line ≡ min (p .line) (r .place + 1)
   pub all : Stands (s .text .now) p → left r ≡ bytesOf p
   pub place : Stands (s .text .now) p → r .place ≡ p .place
   pub line : Stands (s .text .now) p → r .line ≡ p .line
