@@ -20,7 +20,8 @@ pub(crate) fn sentence(number: u8) -> &'static str
     ensures { λ r. ⌜ 0 < length (now r) ⌝ }
 {
     match number {
-        1 => "the circuit text is longer than 16384 bytes, and no circuit of 256 lines is: look for stray bytes",
+        1 =>
+            "the circuit text is longer than 16384 bytes, and no circuit of 256 lines is: look for stray bytes",
         2 => "the circuit has more than 256 lines: it is too large to be played",
         3 => "the last line of the circuit has no line feed: end the text with one",
         4 =>
