@@ -7,9 +7,6 @@ mod work;
 
 pub use changes::change;
 pub use hold::Hold;
-pub use hold::HoldDebug;
-pub use hold::HoldEq;
-pub use hold::HoldPartialEq;
 pub use rules::is_open;
 pub use theorems::bits_make_runs;
 pub use theorems::filling_admitted;

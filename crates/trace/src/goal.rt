@@ -10,5 +10,5 @@ pub struct Goal {
 }
 
 // A solution does not put the target on in the last frame.
-#[derive(Clone, Copy, PartialEq, Eq, Debug)]
+#[derive(Clone, Copy, Debug)]
 pub struct NotOn;
