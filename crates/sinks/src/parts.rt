@@ -6,8 +6,8 @@ use crate::sink::{Refused, Sink};
 
 // Puts all the parts, in their order.
 fn put_all<S: Sink>(sink: &mut S, parts: &[&[u8]]) -> Result<(), Refused>
-    ensures puts { Puts (meaning sink.old) (meaning sink.new) (concat (texts parts.now)) result }
-    ensures home { home sink.new ≡ home sink.old }
+    ensures puts { Puts (S.meaning sink.old) (S.meaning sink.new) (concat (texts parts.now)) result }
+    ensures home { S.home sink.new ≡ S.home sink.old }
 {
     for part in parts {
         sink.put(part)?;
@@ -21,8 +21,8 @@ pub fn put_three<'p, S: Sink>(
     b: &'p [u8],
     c: &'p [u8],
 ) -> Result<(), Refused>
-    ensures puts { Puts (meaning sink.old) (meaning sink.new) (concat (a.now ∷ b.now ∷ c.now ∷ [])) result }
-    ensures home { home sink.new ≡ home sink.old }
+    ensures puts { Puts (S.meaning sink.old) (S.meaning sink.new) (concat (a.now ∷ b.now ∷ c.now ∷ [])) result }
+    ensures home { S.home sink.new ≡ S.home sink.old }
 {
     put_all(sink, &[a, b, c])
 }
@@ -35,8 +35,8 @@ pub fn put_five<'p, S: Sink>(
     d: &'p [u8],
     e: &'p [u8],
 ) -> Result<(), Refused>
-    ensures puts { Puts (meaning sink.old) (meaning sink.new) (concat (a.now ∷ b.now ∷ c.now ∷ d.now ∷ e.now ∷ [])) result }
-    ensures home { home sink.new ≡ home sink.old }
+    ensures puts { Puts (S.meaning sink.old) (S.meaning sink.new) (concat (a.now ∷ b.now ∷ c.now ∷ d.now ∷ e.now ∷ [])) result }
+    ensures home { S.home sink.new ≡ S.home sink.old }
 {
     put_all(sink, &[a, b, c, d, e])
 }

@@ -1,10 +1,10 @@
 -- One part read: what it is, and what is left.
-use Rattle.std.proofs.Common.{◌≡◌, ℕ, suc, ◌+◌, ◌-◌, ◌<◌, ◌≤◌, List, [], length, take, drop, sym, refl, ap, ◌∙◌, arith, length-drop, length-take}
+use Rattle.std.proofs.Common.{◌≡◌, ℕ, suc, ◌+◌, ◌-◌, ◌<◌, ◌≤◌, List, [], length, take, drop, sym, refl, ap, ◌∙◌, arith, length-drop}
 use Rattle.std.proofs.lemmas.List.{take-take, drop-take, drop-drop, length-take-le}
 use Rattle.text.specs.declared.class.Class.{Class}
 use Rattle.text.specs.declared.part.Part.{Part}
 use Rattle.text.specs.declared.reader.Reader.{Reader}
-use Rattle.text.specs.Cut.{stop, Parts, more, cut}
+use Rattle.text.specs.Cut.{stop, more, cut}
 use Rattle.text.specs.Parts.{bytes_of, Stands}
 use Rattle.text.specs.Readers.{lines_closed, left, Yields, Ends}
 use Rattle.text.proofs.Cuts.{cut-more, cut-end}

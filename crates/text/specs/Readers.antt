@@ -6,7 +6,7 @@ use Rattle.text.specs.declared.class.Class.TheVariants.{Feed}
 use Rattle.text.specs.declared.part.Part.{Part}
 use Rattle.text.specs.declared.reader.Reader.{Reader}
 use Rattle.text.specs.Class.{same}
-use Rattle.text.specs.Cut.{Parts, more, cut}
+use Rattle.text.specs.Cut.{more, cut}
 use Rattle.text.specs.Parts.{bytes_of, Stands}
 
 -- how many lines a byte of the class closes

@@ -1,4 +1,6 @@
 // Texts: classes of bytes, names, and a reader that yields the parts of a lent text.
+#![tactic(auto)]
+
 pub mod class;
 pub mod cut;
 pub mod name;

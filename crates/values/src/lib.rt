@@ -1,4 +1,6 @@
 // Kinds of values that a net can have in a frame: bits, and three-way values.
+#![tactic(auto)]
+
 mod bits;
 mod kind;
 mod three;

@@ -1,4 +1,4 @@
-use Rattle.std.proofs.Common.{ℕ, ◌+◌, List, ◌++◌, drop, sym, ap, ◌∙◌, subst}
+use Rattle.std.proofs.Common.{◌+◌, ◌++◌, drop, ◌∙◌, subst}
 use Rattle.std.proofs.lemmas.List.{at_drop_all}
 use Rattle.sinks.specs.Sinks.{texts}
 use Rattle.sinks.specs.Sinks.{concat}
@@ -12,20 +12,20 @@ loop-part-preserved g c =
     let i = c.loop-part.part-index in
     let front = part-front ps i _ c.loop-part-test.true in (
       come-on (m c.args.sink.now) (m c.loop-part.sink) (m c.put.new.self) (concat (texts ps)) _ (concat (texts (drop (i + 1) ps)))
-          (subst (Come (m c.args.sink.now) (m c.loop-part.sink) (concat (texts ps))) front c.loop-part.invariant.0) c.in-ok-put.ensures.puts,
+          (subst (Come (m c.args.sink.now) (m c.loop-part.sink) (concat (texts ps))) front c.loop-part.invariant.0) c.in_ok-put.ensures.puts,
       c.put.ensures.home ∙ c.loop-part.invariant.1,
     )
 
-pub returns-in-err-put : goal.returns-in-err-put
-returns-in-err-put g c =
+pub returns-in_err-put : goal.returns-in_err-put
+returns-in_err-put g c =
     let m = g.S.Sink.meaning in
     let ps = c.args.parts.now in
     let i = c.loop-part.part-index in
     let front = part-front ps i _ c.loop-part-test.true in
     record {
-      puts = puts-err (m c.args.sink.now) (m c.put.new.self) (concat (texts ps)) c.from-residual.result c.from-residual.ensures.0
+      puts = puts-err (m c.args.sink.now) (m c.put.new.self) (concat (texts ps)) c.from_residual.result c.from_residual.ensures.0
           (come-out (m c.args.sink.now) (m c.loop-part.sink) (concat (texts ps)) _ (concat (texts (drop (i + 1) ps)))
-          (subst (Come (m c.args.sink.now) (m c.loop-part.sink) (concat (texts ps))) front c.loop-part.invariant.0) c.in-err-put.ensures.puts);
+          (subst (Come (m c.args.sink.now) (m c.loop-part.sink) (concat (texts ps))) front c.loop-part.invariant.0) c.in_err-put.ensures.puts);
       home = c.put.ensures.home ∙ c.loop-part.invariant.1;
     }
 

@@ -1,4 +1,4 @@
-use Rattle.std.proofs.Common.{arith, rules}
+use Rattle.std.proofs.Common.{rules}
 use Rattle.text.proofs.Classes.{classes}
 use Rattle.text.proofs.class.class_of.Goals as goal
 

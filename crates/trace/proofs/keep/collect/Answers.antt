@@ -50,6 +50,6 @@ returns c =
     let vs = vec_items c.loop-entry.values in
     let coming : left c.new-coming.result ≡ entries nets c.args.last.0 = c.new-coming.ensures ∙ ap (λ ks. entries ks c.args.last.0) c.nets.ensures.is in
     record {
-      items = sym (append-nil vs) ∙ ap (λ es. vs ++ map f es) (sym c.in-default.ensures) ∙ c.loop-entry.invariant.0 ∙ ap (map f) coming;
+      items = sym (append-nil vs) ∙ ap (λ es. vs ++ map f es) (sym c.in_default.ensures) ∙ c.loop-entry.invariant.0 ∙ ap (map f) coming;
       capacity = c.loop-entry.invariant.2 ∙ c.clear.ensures.capacity;
     }

@@ -47,5 +47,5 @@ returns c =
       len = c.loop-entry.invariant.0;
       tries = λ G works.
           let so = c.loop-entry.invariant.2 G works in
-          subst (λ H. Worked nets g H c.loop-entry.cells) (ap (λ es. dashed nets g es so.0) (sym c.in-default.ensures) ∙ so.2) so.1;
+          subst (λ H. Worked nets g H c.loop-entry.cells) (ap (λ es. dashed nets g es so.0) (sym c.in_default.ensures) ∙ so.2) so.1;
     }

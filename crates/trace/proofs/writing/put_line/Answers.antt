@@ -5,12 +5,12 @@ use Rattle.sinks.specs.Sinks.{Puts}
 use Rattle.sinks.proofs.Puttings.{puts-then, puts-out}
 use Rattle.trace.proofs.writing.put_line.Goals as goal
 
-pub returns-in-err-put-head : goal.returns-in-err-put-head
-returns-in-err-put-head g c =
+pub returns-in_err-put-head : goal.returns-in_err-put-head
+returns-in_err-put-head g c =
     let m = g.S.Sink.meaning in
-    record { puts = puts-out (m c.args.sink.now) (m c.put-head.new.sink) (head (names_in c.args.names) c.args.entry) _ c.from-residual.result c.from-residual.ensures.0 c.in-err-put-head.ensures.puts; home = c.put-head.ensures.home }
+    record { puts = puts-out (m c.args.sink.now) (m c.put-head.new.sink) (head (names_in c.args.names) c.args.entry) _ c.from-residual.result c.from-residual.ensures.0 c.in_err-put-head.ensures.puts; home = c.put-head.ensures.home }
 
 pub returns : goal.returns
 returns g c =
     let m = g.S.Sink.meaning in
-    record { puts = puts-then (m c.args.sink.now) (m c.put-head.new.sink) (m c.put.new.self) (head (names_in c.args.names) c.args.entry) _ c.put.result c.in-ok-put-head.ensures.puts (subst (λ b. Puts (m c.put-head.new.sink) (m c.put.new.self) (b ∷ feed) c.put.result) c.byte-of.ensures c.put.ensures.puts); home = c.put.ensures.home ∙ c.put-head.ensures.home }
+    record { puts = puts-then (m c.args.sink.now) (m c.put-head.new.sink) (m c.put.new.self) (head (names_in c.args.names) c.args.entry) _ c.put.result c.in_ok-put-head.ensures.puts (subst (λ b. Puts (m c.put-head.new.sink) (m c.put.new.self) (b ∷ feed) c.put.result) c.byte-of.ensures c.put.ensures.puts); home = c.put.ensures.home ∙ c.put-head.ensures.home }

@@ -7,15 +7,15 @@ use Rattle.sinks.proofs.Puttings.{Come, come-on, come-out, puts-err}
 use Rattle.trace.proofs.Lines.{line-front, lines-none}
 use Rattle.trace.proofs.writing.put_lines.Goals as goal
 
-pub returns-in-default : goal.returns-in-default
-returns-in-default g c =
+pub returns-in_default : goal.returns-in_default
+returns-in_default g c =
     record {
-      puts = λ more. c.loop-value.invariant.0 more ∙ ap (λ es. g.S.Sink.meaning c.loop-value.sink (lines (names_in c.args.names) es (drop c.loop-value.value-index c.args.values.now) ++ more)) c.in-default.ensures;
+      puts = λ more. c.loop-value.invariant.0 more ∙ ap (λ es. g.S.Sink.meaning c.loop-value.sink (lines (names_in c.args.names) es (drop c.loop-value.value-index c.args.values.now) ++ more)) c.in_default.ensures;
       home = c.loop-value.invariant.1;
     }
 
-pub returns-in-err-put-line : goal.returns-in-err-put-line
-returns-in-err-put-line g c =
+pub returns-in_err-put-line : goal.returns-in_err-put-line
+returns-in_err-put-line g c =
     let m = g.S.Sink.meaning in
     let ns = names_in c.args.names in
     let vs = c.args.values.now in
@@ -25,7 +25,7 @@ returns-in-err-put-line g c =
     record {
       puts = puts-err (m c.args.sink.now) (m c.put-line.new.sink) all c.from-residual.result c.from-residual.ensures.0
           (come-out (m c.args.sink.now) (m c.loop-value.sink) all _ (lines ns (left c.next.new.self) (drop (i + 1) vs))
-          (subst (Come (m c.args.sink.now) (m c.loop-value.sink) all) front c.loop-value.invariant.0) c.in-err-put-line.ensures.puts);
+          (subst (Come (m c.args.sink.now) (m c.loop-value.sink) all) front c.loop-value.invariant.0) c.in_err-put-line.ensures.puts);
       home = c.put-line.ensures.home ∙ c.loop-value.invariant.1;
     }
 
@@ -38,7 +38,7 @@ loop-value-preserved g c =
     let all = lines ns (left c.args.entries) vs in
     let front = line-front ns (left c.loop-value.entries) (left c.next.new.self) vs i _ c.loop-value-test.true c.in-Some.entry c.in-Some.ensures in (
       come-on (m c.args.sink.now) (m c.loop-value.sink) (m c.put-line.new.sink) all _ (lines ns (left c.next.new.self) (drop (i + 1) vs))
-          (subst (Come (m c.args.sink.now) (m c.loop-value.sink) all) front c.loop-value.invariant.0) c.in-ok-put-line.ensures.puts,
+          (subst (Come (m c.args.sink.now) (m c.loop-value.sink) all) front c.loop-value.invariant.0) c.in_ok-put-line.ensures.puts,
       c.put-line.ensures.home ∙ c.loop-value.invariant.1,
     )
 

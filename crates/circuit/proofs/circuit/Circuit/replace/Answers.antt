@@ -5,8 +5,8 @@ use Rattle.circuit.proofs.Gathering.{count}
 use Rattle.circuit.proofs.Soundness.{ok-outcome, reading-sound}
 use Rattle.circuit.proofs.circuit.Circuit.replace.Goals as goal
 
-pub invariant-of-self-else-is-err : goal.invariant-of-self-else-is-err
-invariant-of-self-else-is-err c =
+pub invariant_of-self-else-is-err : goal.invariant_of-self-else-is-err
+invariant_of-self-else-is-err c =
     let text = c.args.text.now in
     let nets = c.read-r.new.nets in
     let listing = c.read-r.new.self in

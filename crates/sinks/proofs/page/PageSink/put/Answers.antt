@@ -9,4 +9,4 @@ pub returns-then-bytes-self : goal.returns-then-bytes-self
 returns-then-bytes-self c = record { puts = λ more. pastes-not _ _ _ more (omega arith); home = refl }
 
 pub returns : goal.returns
-returns c = record { puts = λ more. pastes-more _ _ _ c.args.bytes.now _ more (omega arith) c.copy-from-slice.ensures.after (omega arith); home = refl }
+returns c = record { puts = λ more. pastes-more _ _ _ c.args.bytes.now _ more (omega arith) c.copy_from_slice.ensures.after (omega arith); home = refl }

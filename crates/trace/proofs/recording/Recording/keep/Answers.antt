@@ -47,8 +47,8 @@ collect-requires c =
       room = c.args.self.now.values_room;
     }
 
-pub invariant-of-self-2 : goal.invariant-of-self-2
-invariant-of-self-2 c =
+pub invariant_of-self-2 : goal.invariant_of-self-2
+invariant_of-self-2 c =
     let circuit = c.args.self.now.circuit in
     let nets = nets_of circuit in
     let g = c.args.goal in

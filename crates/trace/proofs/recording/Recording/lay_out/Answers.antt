@@ -21,11 +21,11 @@ returns c =
     ∙ c.loop-value.invariant ∙ ap (λ es. laid (length nets) es t.values.now c.args.cells.now) coming
     ∙ ap (λ o. held_laid nets o c.args.cells.now) c.in-Some.ensures
 
-pub returns-in-default-next : goal.returns-in-default-next
-returns-in-default-next c =
+pub returns-in_default-next : goal.returns-in_default-next
+returns-in_default-next c =
     let nets = nets_of c.args.self.now.circuit in
     let t = c.in-Some.trace in
     let coming : left c.new-coming.result ≡ entries nets t.last.0 = c.new-coming.ensures ∙ ap (λ ks. entries ks t.last.0) c.nets.ensures.is in
-    ap (λ es. laid (length nets) es (drop c.loop-value.value-index t.values.now) c.loop-value.cells) (sym c.in-default-next.ensures)
+    ap (λ es. laid (length nets) es (drop c.loop-value.value-index t.values.now) c.loop-value.cells) (sym c.in_default-next.ensures)
     ∙ c.loop-value.invariant ∙ ap (λ es. laid (length nets) es t.values.now c.args.cells.now) coming
     ∙ ap (λ o. held_laid nets o c.args.cells.now) c.in-Some.ensures

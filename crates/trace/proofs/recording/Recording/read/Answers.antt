@@ -20,14 +20,14 @@ read-lines-requires c =
     let few = few-entries c.nets.result.now c.in-Some.first.last.0 c.nets.ensures.few short in
     record { empty = c.clear.ensures.items; room = omega (arith, n, few, c.clear.ensures.capacity, c.args.self.now.values_room); few = omega (arith, n, few) }
 
-pub invariant-of-self-2 : goal.invariant-of-self-2
-invariant-of-self-2 c =
+pub invariant_of-self-2 : goal.invariant_of-self-2
+invariant_of-self-2 c =
     let circuit = c.args.self.now.circuit in
     let ns = names_of c.args.names.now circuit in
     let same : names_in c.new-names.result ≡ ns = λ i. names_of (c.new-names.ensures.text i).now (c.new-names.ensures.circuit i).now in
     let b : Begun = record { last = c.in-Some.first.last.0; target = c.in-Some.first.target; rest = c.in-Some.first.rest.now } in
     let coming = c.new-entries.ensures ∙ ap (λ ks. entries ks c.in-Some.first.last.0) c.nets.ensures.is in
-    let is = read-ok ns (names_in c.new-names.result) same (nets_of circuit) c.args.text.now b c.in-Some.ensures (left c.new-entries.result) coming (vec_items c.read-lines.new.values) c.in-ok-read-lines.ensures.is in
+    let is = read-ok ns (names_in c.new-names.result) same (nets_of circuit) c.args.text.now b c.in-Some.ensures (left c.new-entries.result) coming (vec_items c.read-lines.new.values) c.in_ok-read-lines.ensures.is in
     let level : length ns ≡ length (nets_of circuit) = omega (arith, count c.args.names.now circuit.listing, circuit.named, circuit.nets.ok.0) in
     ((only-written ns (nets_of circuit) c.args.text.now _ is).1.short, (omega (arith, c.read-lines.ensures.room, c.clear.ensures.capacity, c.args.self.now.values_room), (c.args.self.now.cells_room, (fits-read ns (nets_of circuit) c.args.text.now _ level is, tt))))
 
@@ -38,23 +38,23 @@ returns c =
     let same : names_in c.new-names.result ≡ ns = λ i. names_of (c.new-names.ensures.text i).now (c.new-names.ensures.circuit i).now in
     let b : Begun = record { last = c.in-Some.first.last.0; target = c.in-Some.first.target; rest = c.in-Some.first.rest.now } in
     let coming = c.new-entries.ensures ∙ ap (λ ks. entries ks c.in-Some.first.last.0) c.nets.ensures.is in
-    let is = read-ok ns (names_in c.new-names.result) same (nets_of circuit) c.args.text.now b c.in-Some.ensures (left c.new-entries.result) coming (vec_items c.read-lines.new.values) c.in-ok-read-lines.ensures.is in
+    let is = read-ok ns (names_in c.new-names.result) same (nets_of circuit) c.args.text.now b c.in-Some.ensures (left c.new-entries.result) coming (vec_items c.read-lines.new.values) c.in_ok-read-lines.ensures.is in
     record { is = is; taken = only-written ns (nets_of circuit) c.args.text.now _ is; circuit = refl }
 
-pub returns-in-default : goal.returns-in-default
-returns-in-default c =
+pub returns-in_default : goal.returns-in_default
+returns-in_default c =
     let circuit = c.args.self.now.circuit in
     let same : names_in c.new-names.result ≡ names_of c.args.names.now circuit = λ i. names_of (c.new-names.ensures.text i).now (c.new-names.ensures.circuit i).now in
-    let p = first-missing (names_of c.args.names.now circuit) (names_in c.new-names.result) same (nets_of circuit) c.args.text.now c.in-default.ensures in
+    let p = first-missing (names_of c.args.names.now circuit) (names_in c.new-names.result) same (nets_of circuit) c.args.text.now c.in_default.ensures in
     record { is = p.0; taken = p.1; circuit = refl }
 
-pub returns-in-err-read-lines : goal.returns-in-err-read-lines
-returns-in-err-read-lines c =
+pub returns-in_err-read-lines : goal.returns-in_err-read-lines
+returns-in_err-read-lines c =
     let circuit = c.args.self.now.circuit in
     let ns = names_of c.args.names.now circuit in
     let same : names_in c.new-names.result ≡ ns = λ i. names_of (c.new-names.ensures.text i).now (c.new-names.ensures.circuit i).now in
     let b : Begun = record { last = c.in-Some.first.last.0; target = c.in-Some.first.target; rest = c.in-Some.first.rest.now } in
     let coming = c.new-entries.ensures ∙ ap (λ ks. entries ks c.in-Some.first.last.0) c.nets.ensures.is in
     let e = err_from_is_err_and c.from-residual.result c.from-residual.ensures.1 in
-    let p = read-err ns (names_in c.new-names.result) same (nets_of circuit) c.args.text.now b c.in-Some.ensures (left c.new-entries.result) coming c.from-residual.result _ (e.1 ∙ ap Err e.2) c.in-err-read-lines.ensures.is in
+    let p = read-err ns (names_in c.new-names.result) same (nets_of circuit) c.args.text.now b c.in-Some.ensures (left c.new-entries.result) coming c.from-residual.result _ (e.1 ∙ ap Err e.2) c.in_err-read-lines.ensures.is in
     record { is = p.0; taken = p.1; circuit = refl }
