@@ -1,23 +1,16 @@
 -- How the look-up of a name goes on.
-use Rattle.std.proofs.Common.{◌≡◌, ℕ, suc, ◌+◌, ◌<◌, Bool, true, false, cond, List, [], ◌∷◌, length, get_or, drop, Some, None, Decides, sym, refl, ap, ◌∙◌, arith}
-use Rattle.std.specs.Cmp.Lexicographic.{Matches}
+use Rattle.std.proofs.Common.{◌≡◌, ℕ, suc, ◌+◌, ◌<◌, Bool, true, false, cond, List, [], ◌∷◌, length, get_or, drop, Some, None, sym, refl, ap, ◌∙◌, arith}
 use Rattle.std.specs.Str.{bytes_eq}
-use Rattle.std.proofs.lemmas.Slice.Eq.{slice_eq-Decides, bytes_eq-Decides}
 use Rattle.std.proofs.lemmas.List.{at_drop_more}
-use Rattle.std.proofs.lemmas.Bool.Decides.{same_from_decides, Decides-eqb}
 use Rattle.text.specs.declared.span.Span.{Span}
 use Rattle.text.specs.Spans.{spanned}
 use Rattle.circuit.specs.Names.{net, names_at, place_from}
 
--- `==` on slices of bytes is `sameBytes`
-tested : (xs ys : List ℕ) (r : Bool) → Matches (λ (a b : ℕ) (t : Bool). Decides t (a ≡ b)) xs ys r → bytes_eq xs ys ≡ r
-tested xs ys r m = same_from_decides (bytes_eq xs ys) r (bytes_eq-Decides xs ys) (slice_eq-Decides Decides-eqb xs ys r m)
-
-module _ (text : List ℕ) (xs : List Span) (n m : List ℕ) (i : ℕ) (d : Span) (r : Bool) (h : i < length xs) (is : m ≡ spanned text (get_or xs i d)) (test : Matches (λ (a b : ℕ) (t : Bool). Decides t (a ≡ b)) m n r) where
+module _ (text : List ℕ) (xs : List Span) (n m : List ℕ) (i : ℕ) (d : Span) (r : Bool) (h : i < length xs) (is : m ≡ spanned text (get_or xs i d)) (test : r ≡ bytes_eq m n) where
   place-more : place_from i n (names_at text (drop i xs)) ≡ cond r (Some (net i)) (place_from (suc i) n (names_at text (drop (i + 1) xs)))
   place-more =
       at_drop_more (λ ys. place_from i n (names_at text ys)) xs i d h
-      ∙ ap (λ t. cond t (Some (net i)) (place_from (suc i) n (names_at text (drop (i + 1) xs)))) (ap (λ (x : List ℕ). bytes_eq x n) (sym is) ∙ tested m n r test)
+      ∙ ap (λ t. cond t (Some (net i)) (place_from (suc i) n (names_at text (drop (i + 1) xs)))) (ap (λ (x : List ℕ). bytes_eq x n) (sym is) ∙ sym test)
 
   pub place-here : r ≡ true → place_from i n (names_at text (drop i xs)) ≡ Some (net i)
   place-here e = place-more ∙ ap (λ t. cond t (Some (net i)) (place_from (suc i) n (names_at text (drop (i + 1) xs)))) e

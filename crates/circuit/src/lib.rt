@@ -1,4 +1,6 @@
 // Circuits: their nets, and reading one from its text.
+#![tactic(auto)]
+
 pub mod circuit;
 mod draft;
 pub mod fault;

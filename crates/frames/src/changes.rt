@@ -13,7 +13,7 @@ use values::Kind;
 // Puts a value at one place of frames that are worked out with no net held, and works out again what it can change. What is
 // put where the net is not open does not count.
 pub fn change<K: Kind>(circuit: &Circuit, cells: &mut [K], frame: Frame, net: Net, value: K)
-    ensures { Changes algebra (nets_of circuit.now) frame.0 net.0 value cells.old cells.new }
+    ensures { Changes K.algebra (nets_of circuit.now) frame.0 net.0 value cells.old cells.new }
 {
     let nets = circuit.nets();
     let n = net.0 as usize;
@@ -36,8 +36,8 @@ fn settle<K: Kind>(nets: &[NetKind], cells: &mut [K], from: usize, frames: usize
     requires formed { WellFormed nets.now }
     requires start { from ≤ frames }
     requires room { frames * length nets.now ≤ length cells.old }
-    ensures reworked { Steady algebra nets.now (from + 1) frames cells.old → Reworked algebra nets.now None (from * length nets.now) (frames * length nets.now) cells.old cells.new }
-    ensures behind { (i : ℕ) → frames * length nets.now ≤ i → slice_index_or cells.new i (algebra.only false) ≡ slice_index_or cells.old i (algebra.only false) }
+    ensures reworked { Steady K.algebra nets.now (from + 1) frames cells.old → Reworked K.algebra nets.now None (from * length nets.now) (frames * length nets.now) cells.old cells.new }
+    ensures behind { (i : ℕ) → frames * length nets.now ≤ i → slice_index_or cells.new i (K.algebra.only false) ≡ slice_index_or cells.old i (K.algebra.only false) }
 {
     for s in from..frames {
         if !renew(nets, None, cells, s, 0) {

@@ -1,4 +1,6 @@
 // The values of a circuit's nets in its frames, worked out once for every kind of values.
+#![tactic(auto)]
+
 mod changes;
 mod hold;
 mod rules;

@@ -23,7 +23,7 @@ pub fn is_open(kind: NetKind, frame: Frame) -> bool
 
 pub(crate) fn cell<K: Kind>(cells: &[K], i: usize) -> K
     requires { i < length cells.now }
-    ensures { result ≡ slice_index_or cells.now i (algebra.only false) }
+    ensures { result ≡ slice_index_or cells.now i (K.algebra.only false) }
 {
     cells[i]
 }
@@ -31,13 +31,13 @@ pub(crate) fn cell<K: Kind>(cells: &[K], i: usize) -> K
 // What a net has in the frame that begins at a place.
 fn in_frame<K: Kind>(cells: &[K], base: usize, net: Net) -> K
     requires { base + net.0 < length cells.now }
-    ensures { result ≡ slice_index_or cells.now (base + net.0) (algebra.only false) }
+    ensures { result ≡ slice_index_or cells.now (base + net.0) (K.algebra.only false) }
 {
     cell(cells, base + net.0 as usize)
 }
 
 fn first<K: Kind>(start: Start, given: K) -> K
-    ensures { result ≡ first_value algebra given start }
+    ensures { result ≡ first_value K.algebra given start }
 {
     match start {
         Start::Zero => K::of(false),
@@ -60,7 +60,7 @@ fn computed<K: Kind>(nets: &[NetKind], cells: &[K], t: usize, n: usize) -> K
     requires formed { WellFormed nets.now }
     requires within { n < length nets.now }
     requires room { t * length nets.now + length nets.now ≤ length cells.now }
-    ensures { result ≡ gives algebra (grid algebra (length nets.now) cells.now) (grid algebra (length nets.now) cells.now) t n (kind_of nets.now n) }
+    ensures { result ≡ gives K.algebra (grid K.algebra (length nets.now) cells.now) (grid K.algebra (length nets.now) cells.now) t n (kind_of nets.now n) }
 {
     let width = nets.len();
     let base = t * width;
@@ -90,7 +90,7 @@ pub(crate) fn value<K: Kind>(
     requires formed { WellFormed nets.now }
     requires within { n < length nets.now }
     requires room { t * length nets.now + length nets.now ≤ length cells.now }
-    ensures { result ≡ rule algebra nets.now hold (grid algebra (length nets.now) cells.now) (grid algebra (length nets.now) cells.now) t n }
+    ensures { result ≡ rule K.algebra nets.now hold (grid K.algebra (length nets.now) cells.now) (grid K.algebra (length nets.now) cells.now) t n }
 {
     match held(hold, n) {
         Some(bit) => K::of(bit),

@@ -4,7 +4,7 @@ ghost use Rattle.frames.specs.Theorems.{RulesDetermine, FillingAdmitted, Filling
 use values::Kind;
 
 pub fn rules_determine<K: Kind>()
-    ensures { RulesDetermine algebra }
+    ensures { RulesDetermine K.algebra }
 {}
 
 pub fn bits_make_runs()
@@ -13,6 +13,6 @@ pub fn bits_make_runs()
 {}
 
 pub fn filling_admitted<K: Kind>()
-    ensures admitted { FillingAdmitted algebra }
-    ensures kept { FillingKept algebra }
+    ensures admitted { FillingAdmitted K.algebra }
+    ensures kept { FillingKept K.algebra }
 {}

@@ -14,7 +14,7 @@ use values::Kind;
 // Works out as many whole frames as the cells have room for. Net `n` of frame `t` stands at place `t * N + n`, where `N` is
 // the number of nets. What stands where a net is open is given, and stays unless the net is held; all else is worked out.
 pub fn work_out<K: Kind>(circuit: &Circuit, hold: Option<Hold>, cells: &mut [K])
-    ensures { WorksOut algebra (nets_of circuit.now) hold cells.old cells.new }
+    ensures { WorksOut K.algebra (nets_of circuit.now) hold cells.old cells.new }
 {
     let nets = circuit.nets();
     if nets.len() == 0 {
@@ -30,7 +30,7 @@ pub(crate) fn replace<K: Kind>(cells: &mut [K], i: usize, v: K) -> bool
     requires { i < length cells.old }
     ensures is { cells.new ≡ slice_set cells.old i v }
     ensures same { result ≡ false → cells.new ≡ cells.old }
-    ensures other { result ≡ true → slice_index_or cells.old i (algebra.only false) ≢ v }
+    ensures other { result ≡ true → slice_index_or cells.old i (K.algebra.only false) ≢ v }
 {
     if cell(cells, i).same(v) {
         return false;
@@ -50,7 +50,7 @@ pub(crate) fn renew<K: Kind>(
     requires formed { WellFormed nets.now }
     requires start { from ≤ length nets.now }
     requires room { t * length nets.now + length nets.now ≤ length cells.old }
-    ensures reworked { Reworked algebra nets.now hold (t * length nets.now + from) (t * length nets.now + length nets.now) cells.old cells.new }
+    ensures reworked { Reworked K.algebra nets.now hold (t * length nets.now + from) (t * length nets.now + length nets.now) cells.old cells.new }
     ensures same { result ≡ false → cells.new ≡ cells.old }
 {
     let mut changed = false;

@@ -32,7 +32,7 @@ pub(crate) fn lay(recording: &Recording, cells: &mut Vec<Three>, count: usize)
 // Works out the frames, and tells the target's value in the last one.
 fn target_value<K: Kind>(circuit: &Circuit, hold: Option<Hold>, cells: &mut [K], goal: Goal) -> K
     requires { Ready (nets_of circuit.now) goal (length cells.old) }
-    ensures { result ≡ worked algebra (nets_of circuit.now) hold (grid algebra (length (nets_of circuit.now)) cells.old) goal.last.0 goal.target.0 }
+    ensures { result ≡ worked K.algebra (nets_of circuit.now) hold (grid K.algebra (length (nets_of circuit.now)) cells.old) goal.last.0 goal.target.0 }
 {
     work_out(circuit, hold, cells);
     cells[goal.last.0 as usize * circuit.len() + goal.target.0 as usize]

@@ -1,4 +1,6 @@
 // Traces: what a circuit starts with and is given, frame by frame; kept, written and read back.
+#![tactic(auto)]
+
 mod calls;
 mod entries;
 mod entry;

@@ -39,8 +39,8 @@ fn significant(n: u32, digits: &[u8]) -> &[u8]
 }
 
 pub(crate) fn put_head<S: Sink>(sink: &mut S, names: Names, entry: Entry) -> Result<(), Refused>
-    ensures puts { Puts (meaning sink.old) (meaning sink.new) (head (names_in names.entry) entry) result }
-    ensures home { home sink.new ≡ home sink.old }
+    ensures puts { Puts (S.meaning sink.old) (S.meaning sink.new) (head (names_in names.entry) entry) result }
+    ensures home { S.home sink.new ≡ S.home sink.old }
 {
     let name = names.name(entry.net);
     match entry.frame {
@@ -54,8 +54,8 @@ pub(crate) fn put_head<S: Sink>(sink: &mut S, names: Names, entry: Entry) -> Res
 }
 
 fn put_line<S: Sink>(sink: &mut S, names: Names, entry: Entry, value: Three) -> Result<(), Refused>
-    ensures puts { Puts (meaning sink.old) (meaning sink.new) (line (names_in names.entry) entry value) result }
-    ensures home { home sink.new ≡ home sink.old }
+    ensures puts { Puts (S.meaning sink.old) (S.meaning sink.new) (line (names_in names.entry) entry value) result }
+    ensures home { S.home sink.new ≡ S.home sink.old }
 {
     put_head(sink, names, entry)?;
     sink.put(&[byte_of(value), b'\n'])
@@ -67,8 +67,8 @@ fn put_lines<S: Sink>(
     mut entries: Entries,
     values: &[Three],
 ) -> Result<(), Refused>
-    ensures puts { Puts (meaning sink.old) (meaning sink.new) (lines (names_in names.entry) (left entries.entry) values.now) result }
-    ensures home { home sink.new ≡ home sink.old }
+    ensures puts { Puts (S.meaning sink.old) (S.meaning sink.new) (lines (names_in names.entry) (left entries.entry) values.now) result }
+    ensures home { S.home sink.new ≡ S.home sink.old }
 {
     for value in values {
         let Some(entry) = entries.next() else {
@@ -80,8 +80,8 @@ fn put_lines<S: Sink>(
 }
 
 fn put_first<S: Sink>(sink: &mut S, names: Names, last: Frame, target: Net) -> Result<(), Refused>
-    ensures puts { Puts (meaning sink.old) (meaning sink.new) (first_line (names_in names.entry) last.0 target) result }
-    ensures home { home sink.new ≡ home sink.old }
+    ensures puts { Puts (S.meaning sink.old) (S.meaning sink.new) (first_line (names_in names.entry) last.0 target) result }
+    ensures home { S.home sink.new ≡ S.home sink.old }
 {
     let digits = digits(last.0);
     let number = significant(last.0, &digits);
@@ -97,8 +97,8 @@ pub(crate) fn put_text<S: Sink>(
 ) -> Result<(), Refused>
     requires few { length nets.now ≤ 256 }
     requires short { trace.last.0 < 64 }
-    ensures puts { Puts (meaning sink.old) (meaning sink.new) (trace_text (names_in names.entry) nets.now (told trace.entry)) result }
-    ensures home { home sink.new ≡ home sink.old }
+    ensures puts { Puts (S.meaning sink.old) (S.meaning sink.new) (trace_text (names_in names.entry) nets.now (told trace.entry)) result }
+    ensures home { S.home sink.new ≡ S.home sink.old }
 {
     put_first(sink, names, trace.last, trace.target)?;
     let entries = Entries::new(nets, trace.last);

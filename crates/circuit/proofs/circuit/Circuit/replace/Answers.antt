@@ -5,11 +5,16 @@ use Rattle.circuit.proofs.Gathering.{count}
 use Rattle.circuit.proofs.Soundness.{ok-outcome, reading-sound}
 use Rattle.circuit.proofs.circuit.Circuit.replace.Goals as goal
 
-pub invariant_of-self-else-is-err : goal.invariant_of-self-else-is-err
-invariant_of-self-else-is-err c =
+pub invariant_of-self-else-is_err : goal.invariant_of-self-else-is_err
+invariant_of-self-else-is_err c =
     let text = c.args.text.now in
     let nets = c.read-r.new.nets in
     let listing = c.read-r.new.self in
     let all = named (state_of text listing).names (vec_items nets) in
-    let p = reading-sound text all (sym c.read-r.ensures.is ∙ ok-outcome c.read-r.result all c.if-is-err.ensures.value) in
-    (omega (arith, c.read-r.ensures.room, c.clear.ensures.capacity, c.args.self.now.room), (omega (arith, p.few, nets.ok.0), (p.formed, (omega (arith, p.level, count text listing, nets.ok.0), tt))))
+    let p = reading-sound text all (sym c.read-r.ensures.is ∙ ok-outcome c.read-r.result all c.if-is_err.ensures.value) in
+    record {
+      room = omega (arith, c.read-r.ensures.room, c.clear.ensures.capacity, c.args.self.now.room);
+      few = omega (arith, p.few, nets.ok.0);
+      formed = p.formed;
+      named = omega (arith, p.level, count text listing, nets.ok.0);
+    }
