@@ -36,10 +36,10 @@ loop-entry-preserved c =
     let vs = vec_items c.loop-entry.values in
     let rest = left c.next.new.self in
     let here = c.in-Some.ensures in (
-      ap (λ ws. ws ++ map f rest) c.push-reserved.ensures.items ∙ append_assoc vs (c.value-at.result ∷ []) (map f rest)
-          ∙ ap (λ v. vs ++ v ∷ map f rest) c.value-at.ensures ∙ ap (λ es. vs ++ map f es) (sym here) ∙ c.loop-entry.invariant.0,
-      omega (arith, c.push-reserved.ensures.len, ap length here, c.loop-entry.invariant.1),
-      c.push-reserved.ensures.capacity ∙ c.loop-entry.invariant.2,
+      ap (λ ws. ws ++ map f rest) c.push_reserved.ensures.items ∙ append_assoc vs (c.value_at.result ∷ []) (map f rest)
+          ∙ ap (λ v. vs ++ v ∷ map f rest) c.value_at.ensures ∙ ap (λ es. vs ++ map f es) (sym here) ∙ c.loop-entry.invariant.0,
+      omega (arith, c.push_reserved.ensures.len, ap length here, c.loop-entry.invariant.1),
+      c.push_reserved.ensures.capacity ∙ c.loop-entry.invariant.2,
       (subst (All (λ x. place_of N x < length c.args.cells.now)) here c.loop-entry.invariant.3).1,
     )
 

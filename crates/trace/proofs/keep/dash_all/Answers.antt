@@ -16,8 +16,8 @@ loop-entry-init c =
     let coming : left c.new-coming.result ≡ entries nets g.last.0 = c.new-coming.ensures ∙ ap (λ ks. entries ks g.last.0) c.nets.ensures.is in
     (refl, subst (All (OpenEntry nets g.last.0)) (sym coming) (all-open nets g.last.0), λ G works. (G, works, ap (λ es. dashed nets g es G) coming))
 
-pub try-dash-requires : goal.try-dash-requires
-try-dash-requires c =
+pub try_dash-requires : goal.try_dash-requires
+try_dash-requires c =
     let nets = nets_of c.args.circuit.now in
     let g = c.args.goal in
     record {
@@ -32,11 +32,11 @@ loop-entry-preserved c =
     let e = c.in-Some.entry in
     let rest = left c.next.new.self in
     let here = c.in-Some.ensures in (
-      c.try-dash.ensures.len ∙ c.loop-entry.invariant.0,
+      c.try_dash.ensures.len ∙ c.loop-entry.invariant.0,
       (subst (All (OpenEntry nets g.last.0)) here c.loop-entry.invariant.1).1,
       λ G works.
           let so = c.loop-entry.invariant.2 G works in
-          (tried nets g e so.0, c.try-dash.ensures.tries so.0 so.1, ap (λ es. dashed nets g es so.0) (sym here) ∙ so.2),
+          (tried nets g e so.0, c.try_dash.ensures.tries so.0 so.1, ap (λ es. dashed nets g es so.0) (sym here) ∙ so.2),
     )
 
 pub returns : goal.returns

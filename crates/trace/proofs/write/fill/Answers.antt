@@ -12,5 +12,5 @@ unreachable-requires c = pastes-err c.args.out.now (trace_text (names_in c.args.
 pub returns : goal.returns
 returns c =
     let text = trace_text (names_in c.args.names) c.args.nets.now (told c.args.trace) in
-    let is : c.put-text.new.sink.out.now ≡ filled text c.args.out.now = pastes-ok c.args.out.now _ text c.put-text.new.sink.place c.requires.room c.in-Ok.ensures.puts in
+    let is : c.put_text.new.sink.out.now ≡ filled text c.args.out.now = pastes-ok c.args.out.now _ text c.put_text.new.sink.place c.requires.room c.in-Ok.ensures.puts in
     search rules

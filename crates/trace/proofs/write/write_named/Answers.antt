@@ -10,22 +10,22 @@ use Rattle.trace.proofs.write.write_named.Goals as goal
 pub returns-then-trace-count : goal.returns-then-trace-count
 returns-then-trace-count c = record { answer = far-target c.args.names c.len-count.result c.args.nets.now (told c.args.trace) _ c.len-count.ensures.is c.if-trace-count.true; out = refl }
 
-pub returns-then-not-is-covered : goal.returns-then-not-is-covered
-returns-then-not-is-covered c = record { answer = not-covered c.args.names c.len-count.result c.args.nets.now (told c.args.trace) _ c.len-count.ensures.is c.if-not-is-covered.ensures; out = refl }
+pub returns-then-not-is_covered : goal.returns-then-not-is_covered
+returns-then-not-is_covered c = record { answer = not-covered c.args.names c.len-count.result c.args.nets.now (told c.args.trace) _ c.len-count.ensures.is c.if-not-is_covered.ensures; out = refl }
 
 pub returns-in_err-size : goal.returns-in_err-size
 returns-in_err-size c =
-    let p = err_from_is_err_and c.from-residual.result c.from-residual.ensures.1 in
+    let p = err_from_is_err_and c.from_residual.result c.from_residual.ensures.1 in
     let is = p.1 ∙ ap Err p.2 in
     let text = trace_text (names_in c.args.names) c.args.nets.now (told c.args.trace) in
     record {
-      answer = is ∙ too-short c.args.names c.len-count.result c.args.nets.now (told c.args.trace) _ c.len-count.ensures.is c.if-trace-count.false c.if-not-is-covered.ensures c.in_err-size.ensures;
+      answer = is ∙ too-short c.args.names c.len-count.result c.args.nets.now (told c.args.trace) _ c.len-count.ensures.is c.if-trace-count.false c.if-not-is_covered.ensures c.in_err-size.ensures;
       out = sym (ap (written text c.args.out.now) is);
     }
 
 pub returns : goal.returns
 returns c =
     record {
-      answer = enough c.args.names c.len-count.result c.args.nets.now (told c.args.trace) _ c.len-count.ensures.is c.if-trace-count.false c.if-not-is-covered.ensures c.in_ok-size.size c.in_ok-size.ensures.0 c.in_ok-size.ensures.1;
+      answer = enough c.args.names c.len-count.result c.args.nets.now (told c.args.trace) _ c.len-count.ensures.is c.if-trace-count.false c.if-not-is_covered.ensures c.in_ok-size.size c.in_ok-size.ensures.0 c.in_ok-size.ensures.1;
       out = c.fill.ensures;
     }

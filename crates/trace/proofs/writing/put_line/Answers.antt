@@ -5,12 +5,12 @@ use Rattle.sinks.specs.Sinks.{Puts}
 use Rattle.sinks.proofs.Puttings.{puts-then, puts-out}
 use Rattle.trace.proofs.writing.put_line.Goals as goal
 
-pub returns-in_err-put-head : goal.returns-in_err-put-head
-returns-in_err-put-head g c =
+pub returns-in_err-put_head : goal.returns-in_err-put_head
+returns-in_err-put_head g c =
     let m = g.S.Sink.meaning in
-    record { puts = puts-out (m c.args.sink.now) (m c.put-head.new.sink) (head (names_in c.args.names) c.args.entry) _ c.from-residual.result c.from-residual.ensures.0 c.in_err-put-head.ensures.puts; home = c.put-head.ensures.home }
+    record { puts = puts-out (m c.args.sink.now) (m c.put_head.new.sink) (head (names_in c.args.names) c.args.entry) _ c.from_residual.result c.from_residual.ensures.0 c.in_err-put_head.ensures.puts; home = c.put_head.ensures.home }
 
 pub returns : goal.returns
 returns g c =
     let m = g.S.Sink.meaning in
-    record { puts = puts-then (m c.args.sink.now) (m c.put-head.new.sink) (m c.put.new.self) (head (names_in c.args.names) c.args.entry) _ c.put.result c.in_ok-put-head.ensures.puts (subst (λ b. Puts (m c.put-head.new.sink) (m c.put.new.self) (b ∷ feed) c.put.result) c.byte-of.ensures c.put.ensures.puts); home = c.put.ensures.home ∙ c.put-head.ensures.home }
+    record { puts = puts-then (m c.args.sink.now) (m c.put_head.new.sink) (m c.put.new.self) (head (names_in c.args.names) c.args.entry) _ c.put.result c.in_ok-put_head.ensures.puts (subst (λ b. Puts (m c.put_head.new.sink) (m c.put.new.self) (b ∷ feed) c.put.result) c.byte_of.ensures c.put.ensures.puts); home = c.put.ensures.home ∙ c.put_head.ensures.home }

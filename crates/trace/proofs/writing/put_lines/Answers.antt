@@ -14,8 +14,8 @@ returns-in_default g c =
       home = c.loop-value.invariant.1;
     }
 
-pub returns-in_err-put-line : goal.returns-in_err-put-line
-returns-in_err-put-line g c =
+pub returns-in_err-put_line : goal.returns-in_err-put_line
+returns-in_err-put_line g c =
     let m = g.S.Sink.meaning in
     let ns = names_in c.args.names in
     let vs = c.args.values.now in
@@ -23,10 +23,10 @@ returns-in_err-put-line g c =
     let all = lines ns (left c.args.entries) vs in
     let front = line-front ns (left c.loop-value.entries) (left c.next.new.self) vs i _ c.loop-value-test.true c.in-Some.entry c.in-Some.ensures in
     record {
-      puts = puts-err (m c.args.sink.now) (m c.put-line.new.sink) all c.from-residual.result c.from-residual.ensures.0
+      puts = puts-err (m c.args.sink.now) (m c.put_line.new.sink) all c.from_residual.result c.from_residual.ensures.0
           (come-out (m c.args.sink.now) (m c.loop-value.sink) all _ (lines ns (left c.next.new.self) (drop (i + 1) vs))
-          (subst (Come (m c.args.sink.now) (m c.loop-value.sink) all) front c.loop-value.invariant.0) c.in_err-put-line.ensures.puts);
-      home = c.put-line.ensures.home ∙ c.loop-value.invariant.1;
+          (subst (Come (m c.args.sink.now) (m c.loop-value.sink) all) front c.loop-value.invariant.0) c.in_err-put_line.ensures.puts);
+      home = c.put_line.ensures.home ∙ c.loop-value.invariant.1;
     }
 
 pub loop-value-preserved : goal.loop-value-preserved
@@ -37,9 +37,9 @@ loop-value-preserved g c =
     let i = c.loop-value.value-index in
     let all = lines ns (left c.args.entries) vs in
     let front = line-front ns (left c.loop-value.entries) (left c.next.new.self) vs i _ c.loop-value-test.true c.in-Some.entry c.in-Some.ensures in (
-      come-on (m c.args.sink.now) (m c.loop-value.sink) (m c.put-line.new.sink) all _ (lines ns (left c.next.new.self) (drop (i + 1) vs))
-          (subst (Come (m c.args.sink.now) (m c.loop-value.sink) all) front c.loop-value.invariant.0) c.in_ok-put-line.ensures.puts,
-      c.put-line.ensures.home ∙ c.loop-value.invariant.1,
+      come-on (m c.args.sink.now) (m c.loop-value.sink) (m c.put_line.new.sink) all _ (lines ns (left c.next.new.self) (drop (i + 1) vs))
+          (subst (Come (m c.args.sink.now) (m c.loop-value.sink) all) front c.loop-value.invariant.0) c.in_ok-put_line.ensures.puts,
+      c.put_line.ensures.home ∙ c.loop-value.invariant.1,
     )
 
 pub returns : goal.returns

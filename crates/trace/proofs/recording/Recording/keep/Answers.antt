@@ -18,15 +18,15 @@ lift-requires c =
     let frames : c.args.goal.last.0 + 1 ≤ 64 = omega (arith, c.if-goal-ge64.false) in
     omega (arith, mul-le-mul frames c.len-width.ensures.few, c.if-solution-goal.false, c.args.self.now.cells_room)
 
-pub find-dashes-requires : goal.find-dashes-requires
-find-dashes-requires c =
+pub find_dashes-requires : goal.find_dashes-requires
+find_dashes-requires c =
     let circuit = c.args.self.now.circuit in
     let nets = nets_of circuit in
     let g = c.args.goal in
     let inside : g.target.0 < length nets = omega (arith, c.if-goal-width.false, c.len-width.ensures.is) in
     let size : length c.args.solution.now ≡ (g.last.0 + 1) * length nets = c.if-solution-goal.false ∙ ap (λ w. (g.last.0 + 1) * w) c.len-width.ensures.is in
-    let lent = c.as-mut-slice.ensures.value ∙ c.lift.ensures.items in
-    ready nets circuit.formed g c.args.solution.now c.if-goal-ge64.false inside size c.as-mut-slice.result.now c.as-mut-slice.result.now lent
+    let lent = c.as_mut_slice.ensures.value ∙ c.lift.ensures.items in
+    ready nets circuit.formed g c.args.solution.now c.if-goal-ge64.false inside size c.as_mut_slice.result.now c.as_mut_slice.result.now lent
 
 pub collect-requires : goal.collect-requires
 collect-requires c =
@@ -35,15 +35,15 @@ collect-requires c =
     let g = c.args.goal in
     let inside : g.target.0 < length nets = omega (arith, c.if-goal-width.false, c.len-width.ensures.is) in
     let size : length c.args.solution.now ≡ (g.last.0 + 1) * length nets = c.if-solution-goal.false ∙ ap (λ w. (g.last.0 + 1) * w) c.len-width.ensures.is in
-    let lent = c.as-mut-slice.ensures.value ∙ c.lift.ensures.items in
-    let found = c.if-not-find-dashes.ensures in
+    let lent = c.as_mut_slice.ensures.value ∙ c.lift.ensures.items in
+    let found = c.if-not-find_dashes.ensures in
     let v = c.lift.new.cells in
-    let D = c.find-dashes.new.cells in
-    let same : (with_items v D).items ≡ D = with_items_is v D (omega (arith, found.1, ap length c.as-mut-slice.ensures.value, v.ok.0)) in
-    let at = ready nets circuit.formed g c.args.solution.now c.if-goal-ge64.false inside size c.as-mut-slice.result.now D lent in
+    let D = c.find_dashes.new.cells in
+    let same : (with_items v D).items ≡ D = with_items_is v D (omega (arith, found.1, ap length c.as_mut_slice.ensures.value, v.ok.0)) in
+    let at = ready nets circuit.formed g c.args.solution.now c.if-goal-ge64.false inside size c.as_mut_slice.result.now D lent in
     record {
       short = c.if-goal-ge64.false;
-      size = at.whole ∙ sym (ap length c.as-slice.ensures.value ∙ ap length same ∙ found.1);
+      size = at.whole ∙ sym (ap length c.as_slice.ensures.value ∙ ap length same ∙ found.1);
       room = c.args.self.now.values_room;
     }
 
@@ -53,17 +53,22 @@ invariant_of-self-2 c =
     let nets = nets_of circuit in
     let g = c.args.goal in
     let inside : g.target.0 < length nets = omega (arith, c.if-goal-width.false, c.len-width.ensures.is) in
-    (c.if-goal-ge64.false, (omega (arith, c.collect.ensures.capacity, c.args.self.now.values_room), (omega (arith, c.lift.ensures.capacity, c.args.self.now.cells_room), (and_from _ _ (lt-ltb _ _ inside) (eq-eqb _ _ (ap length c.collect.ensures.items ∙ length-map (entries nets g.last.0) _)), tt))))
+    record {
+      short = c.if-goal-ge64.false;
+      values_room = omega (arith, c.collect.ensures.capacity, c.args.self.now.values_room);
+      cells_room = omega (arith, c.lift.ensures.capacity, c.args.self.now.cells_room);
+      fits = and_from _ _ (lt-ltb _ _ inside) (eq-eqb _ _ (ap length c.collect.ensures.items ∙ length-map (entries nets g.last.0) _));
+    }
 
-pub returns-then-not-find-dashes : goal.returns-then-not-find-dashes
-returns-then-not-find-dashes c =
+pub returns-then-not-find_dashes : goal.returns-then-not-find_dashes
+returns-then-not-find_dashes c =
     let circuit = c.args.self.now.circuit in
     let nets = nets_of circuit in
     let g = c.args.goal in
     let inside : g.target.0 < length nets = omega (arith, c.if-goal-width.false, c.len-width.ensures.is) in
     let size : length c.args.solution.now ≡ (g.last.0 + 1) * length nets = c.if-solution-goal.false ∙ ap (λ w. (g.last.0 + 1) * w) c.len-width.ensures.is in
-    let lent = c.as-mut-slice.ensures.value ∙ c.lift.ensures.items in
-    (not-kept nets circuit.formed g c.args.solution.now c.if-goal-ge64.false inside size c.as-mut-slice.result.now c.find-dashes.new.cells lent c.if-not-find-dashes.ensures, refl, refl)
+    let lent = c.as_mut_slice.ensures.value ∙ c.lift.ensures.items in
+    (not-kept nets circuit.formed g c.args.solution.now c.if-goal-ge64.false inside size c.as_mut_slice.result.now c.find_dashes.new.cells lent c.if-not-find_dashes.ensures, refl, refl)
 
 pub returns : goal.returns
 returns c =
@@ -72,16 +77,16 @@ returns c =
     let g = c.args.goal in
     let inside : g.target.0 < length nets = omega (arith, c.if-goal-width.false, c.len-width.ensures.is) in
     let size : length c.args.solution.now ≡ (g.last.0 + 1) * length nets = c.if-solution-goal.false ∙ ap (λ w. (g.last.0 + 1) * w) c.len-width.ensures.is in
-    let lent = c.as-mut-slice.ensures.value ∙ c.lift.ensures.items in
-    let found = c.if-not-find-dashes.ensures in
+    let lent = c.as_mut_slice.ensures.value ∙ c.lift.ensures.items in
+    let found = c.if-not-find_dashes.ensures in
     let v = c.lift.new.cells in
-    let D = c.find-dashes.new.cells in
-    let same : (with_items v D).items ≡ D = with_items_is v D (omega (arith, found.1, ap length c.as-mut-slice.ensures.value, v.ok.0)) in
-    let E = c.as-slice.result.now in
-    let held = values-are nets circuit.formed g c.args.solution.now c.if-goal-ge64.false inside size c.as-mut-slice.result.now D lent found E (vec_items c.collect.new.values) (c.as-slice.ensures.value ∙ same) c.collect.ensures.items in
+    let D = c.find_dashes.new.cells in
+    let same : (with_items v D).items ≡ D = with_items_is v D (omega (arith, found.1, ap length c.as_mut_slice.ensures.value, v.ok.0)) in
+    let E = c.as_slice.result.now in
+    let held = values-are nets circuit.formed g c.args.solution.now c.if-goal-ge64.false inside size c.as_mut_slice.result.now D lent found E (vec_items c.collect.new.values) (c.as_slice.ensures.value ∙ same) c.collect.ensures.items in
     let told : ◌≡◌ {A = Told} (record { last = g.last.0; target = g.target; values = vec_items c.collect.new.values }) (kept_trace nets g c.args.solution.now) = λ i. record { last = g.last.0; target = g.target; values = held i } in (
-      puts-on nets circuit.formed g c.args.solution.now c.if-goal-ge64.false inside size c.as-mut-slice.result.now D lent found,
+      puts-on nets circuit.formed g c.args.solution.now c.if-goal-ge64.false inside size c.as_mut_slice.result.now D lent found,
       refl,
       ap Some told,
-      kept-certain nets circuit.formed g c.args.solution.now c.if-goal-ge64.false inside size c.as-mut-slice.result.now D lent found,
+      kept-certain nets circuit.formed g c.args.solution.now c.if-goal-ge64.false inside size c.as_mut_slice.result.now D lent found,
     )

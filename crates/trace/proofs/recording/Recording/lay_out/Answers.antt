@@ -8,8 +8,8 @@ use Rattle.trace.proofs.recording.Recording.lay_out.Goals as goal
 
 pub loop-value-preserved : goal.loop-value-preserved
 loop-value-preserved c =
-    laid-more (length (nets_of c.args.self.now.circuit)) (left c.loop-value.coming) (left c.next.new.self) c.in-Some-next.entry c.in-Some.trace.values.now c.loop-value.value-index _ c.loop-value.cells c.put-cell.new.cells c.place-of.result
-    c.in-Some-next.ensures c.loop-value-test.true c.place-of.ensures c.put-cell.ensures
+    laid-more (length (nets_of c.args.self.now.circuit)) (left c.loop-value.coming) (left c.next.new.self) c.in-Some-next.entry c.in-Some.trace.values.now c.loop-value.value-index _ c.loop-value.cells c.put_cell.new.cells c.place_of.result
+    c.in-Some-next.ensures c.loop-value-test.true c.place_of.ensures c.put_cell.ensures
     ∙ c.loop-value.invariant
 
 pub returns : goal.returns
