@@ -5,7 +5,7 @@ use Rattle.values.specs.Threes.{is_one}
 use Rattle.trace.specs.Dashing.{Ready}
 use Rattle.replay.proofs.playing.answer_bits.Goals as goal
 
-pub target-value-bit-requires : goal.target-value-bit-requires
-target-value-bit-requires c =
-    let long = ap length (c.as-mut-slice.ensures.value ∙ c.fill-bits.ensures.items) ∙ length-map c.args.cells.now is_one in
+pub target_value-bit-requires : goal.target_value-bit-requires
+target_value-bit-requires c =
+    let long = ap length (c.as_mut_slice.ensures.value ∙ c.fill_bits.ensures.items) ∙ length-map c.args.cells.now is_one in
     subst (Ready (nets_of c.args.circuit.now) c.args.goal) (sym long) c.requires.ready

@@ -9,6 +9,6 @@ pub returns : goal.returns
 returns c =
     let r = c.args.recording.now in
     record {
-      items = with_items_is c.fill-zeros.new.cells c.lay-out.new.cells (omega arith) ∙ c.lay-out.ensures ∙ ap (held_laid (nets_of r.circuit) (held_trace r)) (c.as-mut-slice.ensures.value ∙ c.fill-zeros.ensures.items);
-      capacity = c.fill-zeros.ensures.capacity;
+      items = with_items_is c.fill_zeros.new.cells c.lay_out.new.cells (omega arith) ∙ c.lay_out.ensures ∙ ap (held_laid (nets_of r.circuit) (held_trace r)) (c.as_mut_slice.ensures.value ∙ c.fill_zeros.ensures.items);
+      capacity = c.fill_zeros.ensures.capacity;
     }

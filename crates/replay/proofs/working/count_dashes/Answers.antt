@@ -3,7 +3,7 @@ use Rattle.std.proofs.lemmas.List.{at_drop_more, at_drop_all}
 use Rattle.values.specs.declared.three.Three.{Three}
 use Rattle.replay.specs.Answers.{is_dash, dash_count}
 use Rattle.replay.proofs.working.count_dashes.Goals as goal
-use Rattle.replay.proofs.working.count_dashes.Goals.{then-is-dash, else-is-dash}
+use Rattle.replay.proofs.working.count_dashes.Goals.{then-is_dash, else-is_dash}
 
 -- one value more
 more : (vs : List Three) (i : ℕ) (d : Three) (t : Bool) → i < length vs → t ≡ is_dash (get_or vs i d) → dash_count (drop i vs) ≡ cond t 1 0 + dash_count (drop (i + 1) vs)
@@ -15,10 +15,10 @@ loop-value-init c = (omega arith, omega arith)
 pub loop-value-preserved : goal.loop-value-preserved
 loop-value-preserved c =
     let i = c.loop-value.value-index in
-    let next = more c.args.values.now i _ c.is-dash.result c.loop-value-test.true c.is-dash.ensures in
-    elim c.if-is-dash.branch [
-      | then-is-dash w ↦ (omega (arith, w.count-is, c.loop-value.invariant.0, next ∙ ap (λ b. cond b 1 0 + dash_count (drop (i + 1) c.args.values.now)) w.if-is-dash.true), omega (arith, w.count-is, c.loop-value.invariant.1))
-      | else-is-dash w ↦ (omega (arith, w.count-is, c.loop-value.invariant.0, next ∙ ap (λ b. cond b 1 0 + dash_count (drop (i + 1) c.args.values.now)) w.if-is-dash.false), omega (arith, w.count-is, c.loop-value.invariant.1))
+    let next = more c.args.values.now i _ c.is_dash.result c.loop-value-test.true c.is_dash.ensures in
+    elim c.if-is_dash.branch [
+      | then-is_dash w ↦ (omega (arith, w.count-is, c.loop-value.invariant.0, next ∙ ap (λ b. cond b 1 0 + dash_count (drop (i + 1) c.args.values.now)) w.if-is_dash.true), omega (arith, w.count-is, c.loop-value.invariant.1))
+      | else-is_dash w ↦ (omega (arith, w.count-is, c.loop-value.invariant.0, next ∙ ap (λ b. cond b 1 0 + dash_count (drop (i + 1) c.args.values.now)) w.if-is_dash.false), omega (arith, w.count-is, c.loop-value.invariant.1))
     ]
 
 pub returns : goal.returns

@@ -5,7 +5,7 @@ use Rattle.replay.proofs.working.fill_zeros.Goals as goal
 
 pub loop-cells-preserved : goal.loop-cells-preserved
 loop-cells-preserved c = (
-  c.push-reserved.ensures.items ∙ ap (λ vs. vs ++ Zero ∷ []) c.loop-cells.invariant.0 ∙ replicate_more (vec_len c.loop-cells.cells) Zero ∙ ap (λ n. replicate n Zero) (sym c.push-reserved.ensures.len),
-  omega (arith, c.push-reserved.ensures.len, c.loop-cells-test.true, c.len.ensures),
-  c.push-reserved.ensures.capacity ∙ c.loop-cells.invariant.2,
+  c.push_reserved.ensures.items ∙ ap (λ vs. vs ++ Zero ∷ []) c.loop-cells.invariant.0 ∙ replicate_more (vec_len c.loop-cells.cells) Zero ∙ ap (λ n. replicate n Zero) (sym c.push_reserved.ensures.len),
+  omega (arith, c.push_reserved.ensures.len, c.loop-cells-test.true, c.len.ensures),
+  c.push_reserved.ensures.capacity ∙ c.loop-cells.invariant.2,
 )

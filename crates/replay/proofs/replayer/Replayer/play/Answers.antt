@@ -20,15 +20,15 @@ report-requires c = let h = held {U = Unit {0}} tt (held_trace c.read.new.self) 
 
 pub returns : goal.returns
 returns c =
-    let read = c.read-circuit.new.self.circuit in
+    let read = c.read_circuit.new.self.circuit in
     let h = held {U = Unit {0}} tt (held_trace c.read.new.self) _ c.in_ok-read.ensures.is in
     let inside : hold_inside c.args.hold (length (nets_of read)) ≡ true =
-    ap (hold_inside c.args.hold) (sym (c.len.ensures.is ∙ ap (λ (x : Circuit). length (nets_of x)) c.circuit.ensures)) ∙ sym c.hold-inside.ensures ∙ c.if-not-hold-inside.false in
+    ap (hold_inside c.args.hold) (sym (c.len.ensures.is ∙ ap (λ (x : Circuit). length (nets_of x)) c.circuit.ensures)) ∙ sym c.hold_inside.ensures ∙ c.if-not-hold_inside.false in
     let is = c.report.ensures h.0 h.1 ∙ ap (λ (x : Circuit). report_of (nets_of x) c.args.hold h.0) c.in_ok-read.ensures.circuit in
-    let all = plays c.args.circuit.now c.args.trace.now c.args.hold (named (names_of c.args.circuit.now read) (nets_of read)) h.0 c.report.result c.in_ok-read-circuit.ensures.circuit inside h.2 is in
+    let all = plays c.args.circuit.now c.args.trace.now c.args.hold (named (names_of c.args.circuit.now read) (nets_of read)) h.0 c.report.result c.in_ok-read_circuit.ensures.circuit inside h.2 is in
     record { is = all; law = lawful c.args.circuit.now c.args.trace.now c.args.hold _ all }
 
 pub returns-in_err-read : goal.returns-in_err-read
 returns-in_err-read c =
-    let is : c.from-residual-in_err-read.result ≡ replayed c.args.circuit.now c.args.trace.now c.args.hold = search rules in
+    let is : c.from_residual-in_err-read.result ≡ replayed c.args.circuit.now c.args.trace.now c.args.hold = search rules in
     record { is = is; law = lawful c.args.circuit.now c.args.trace.now c.args.hold _ is }

@@ -18,8 +18,8 @@ lay-requires c =
     let width = c.len-nets.ensures.is ∙ ap (λ (x : Circuit). length (nets_of x)) c.circuit-circuit.ensures in
     omega (arith, few-cells r (told c.in-Some.trace) (sym c.in-Some.ensures) c.len-nets.result width, c.args.self.now.threes_room)
 
-pub answer-all-answer-requires : goal.answer-all-answer-requires
-answer-all-answer-requires c =
+pub answer_all-answer-requires : goal.answer_all-answer-requires
+answer_all-answer-requires c =
     let r = c.args.self.now.recording in
     let t = told c.in-Some.trace in
     let held = sym c.in-Some.ensures in
@@ -40,6 +40,6 @@ returns c t q =
     let width = c.len-nets.ensures.is ∙ ap (λ (x : Circuit). length (nets_of x)) c.circuit-circuit.ensures in
     let goal : Goal = record { last = c.in-Some.trace.last; target = c.in-Some.trace.target } in
     let cells = vec_items c.lay.new.cells in
-    let answer = c.answer-all-answer.ensures.is ∙ ap (λ (x : Circuit). answer_by (nets_of x) c.args.hold c.count-dashes-dashes.result cells goal) c.circuit-circuit.ensures in
-    report-is r s held c.len-nets.result width c.args.hold goal refl refl cells c.lay.ensures.items c.count-dashes-dashes.result c.count-dashes-dashes.ensures.is c.answer-all-answer.result answer
+    let answer = c.answer_all-answer.ensures.is ∙ ap (λ (x : Circuit). answer_by (nets_of x) c.args.hold c.count_dashes-dashes.result cells goal) c.circuit-circuit.ensures in
+    report-is r s held c.len-nets.result width c.args.hold goal refl refl cells c.lay.ensures.items c.count_dashes-dashes.result c.count_dashes-dashes.ensures.is c.answer_all-answer.result answer
     ∙ ap (report_of (nets_of r.circuit) c.args.hold) (same-some s t (sym held ∙ q))
