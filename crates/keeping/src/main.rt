@@ -1,4 +1,6 @@
 // Keeps traces of large circuits over 64 frames, and prints how many dashes they have: what keeping costs.
+#![tactic(auto)]
+
 use anyhow::anyhow;
 use circuit::circuit::Circuit;
 use circuit::nets::{Frame, Net};

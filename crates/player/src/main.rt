@@ -1,11 +1,15 @@
 // Plays a trace on a circuit, both read from files, with one net held or none.
+#![tactic(auto)]
+
 mod words;
 
+use anyhow::anyhow;
 use frames::Hold;
 use replay::fault::ReplayFault;
 use replay::record::HoldRecord;
 use replay::replayer::Replayer;
 use replay::report::Report;
+use std::process::ExitCode;
 use std::{env, fs};
 use words::{answer_word, sentence};
 
@@ -33,22 +37,22 @@ fn hold_asked(rt: &HostRuntime) -> anyhow::Result<Option<(String, bool)>> {
         return Ok(None);
     };
     let Some(value) = words.next() else {
-        return Err(USAGE.into());
+        return Err(anyhow!(USAGE));
     };
     match bit_of(value.as_str()) {
         Some(bit) => Ok(Some((name, bit))),
-        None => Err(USAGE.into()),
+        None => Err(anyhow!(USAGE)),
     }
 }
 
 fn asked(rt: &HostRuntime) -> anyhow::Result<Request> {
     let mut words = env::args(rt)?;
     if words.len() > 5 {
-        return Err(USAGE.into());
+        return Err(anyhow!(USAGE));
     }
     let _ = words.next();
     let (Some(circuit), Some(trace)) = (words.next(), words.next()) else {
-        return Err(USAGE.into());
+        return Err(anyhow!(USAGE));
     };
     let hold = hold_asked(rt)?;
     Ok(Request {
@@ -101,7 +105,7 @@ fn refuse(rt: &HostRuntime, fault: ReplayFault) -> anyhow::Result<()> {
     let number = fault.number();
     let line = fault.line();
     println!(rt; "no\t{number}\t{line}")?;
-    Err(sentence(number).into())
+    Err(anyhow!(sentence(number)))
 }
 
 fn run(rt: &HostRuntime) -> anyhow::Result<()> {
@@ -112,10 +116,13 @@ fn run(rt: &HostRuntime) -> anyhow::Result<()> {
     }
 }
 
-fn main(rt: HostRuntime) -> anyhow::Result<()> {
-    let done = run(&rt);
-    if let Err(error) = &done {
-        eprintln!(rt; "player: {error}")?;
+// A refusal has its sentence on standard error and ends the program with status 1.
+fn main(rt: HostRuntime) -> anyhow::Result<ExitCode> {
+    match run(&rt) {
+        Ok(()) => Ok(ExitCode::SUCCESS),
+        Err(error) => {
+            eprintln!(rt; "player: {error}")?;
+            Ok(ExitCode::FAILURE)
+        }
     }
-    done
 }
