@@ -12,8 +12,8 @@ use Rattle.circuit.specs.declared.nets.Start.{Start}
 use Rattle.circuit.specs.declared.nets.Start.TheVariants.{Zero, One, Free}
 use Rattle.circuit.specs.Judge.{Drafted, done, waits, Kept, start_of, started, pair, gate, inverse, fitted, judged}
 use Rattle.circuit.specs.Names.{net, name_at, place_from}
-use Rattle.circuit.specs.Reading.{State, nothing, full, taken, closing, gather, gathered, latched, settled, resolve, Named, named, reading}
-use Rattle.circuit.specs.Record.{Said, input, latch, and, xor, not, Line, line, letter_of, row, row_of}
+use Rattle.circuit.specs.Reading.{State, nothing, full, taken, closing, gather, gathered, latched, settled, resolve, Named, reading}
+use Rattle.circuit.specs.Record.{Said, input, latch, and, xor, not, Line, letter_of, row, row_of}
 use Rattle.circuit.specs.Written.{start_byte, line_text, lines_from, circuit_text, IsCircuit}
 use Rattle.circuit.proofs.Places.{no-some, same-some, place-name, place-name-more}
 use Rattle.circuit.proofs.Soundness.{no-ok, same-ok, then-ok, judged-ok, taken-ok, reading-ok, reading-sound}

@@ -13,7 +13,7 @@ use Rattle.circuit.specs.declared.nets.NetKind.TheVariants.{Input, Latch, And, X
 use Rattle.circuit.specs.declared.nets.Start.{Start}
 use Rattle.circuit.specs.declared.nets.Start.TheVariants.{Zero, One, Free}
 use Rattle.circuit.specs.Judge.{Drafted, done, waits, Kept, start_of, started, pair, gate, inverse, fitted, under, judged_row, judged, others_good}
-use Rattle.circuit.specs.Names.{net, name_at, place_from, GoodNames}
+use Rattle.circuit.specs.Names.{name_at, place_from, GoodNames}
 use Rattle.circuit.specs.Reading.{State, nothing, grown, added, full, gather, gathered, and_then, latched, settled, resolve, named, reading}
 use Rattle.circuit.specs.Record.{Said, input, latch, and, xor, not, line, row, row_of}
 use Rattle.circuit.specs.Runs.{kind, placed}

@@ -14,7 +14,7 @@ use Rattle.text.specs.declared.class.Class.TheVariants.{Feed}
 use Rattle.text.specs.Cut.{cut}
 use Rattle.text.specs.Name.{is_name}
 use Rattle.circuit.specs.Judge.{Drafted, done, waits, Kept, start_of, started, pair, gate, inverse, fitted, under, judged_row, judged, names_good}
-use Rattle.circuit.specs.Names.{net, place_from, GoodNames}
+use Rattle.circuit.specs.Names.{place_from, GoodNames}
 use Rattle.circuit.specs.Faults.{fault}
 use Rattle.circuit.specs.Runs.{kind, placed, WellFormed}
 use Rattle.circuit.specs.Reading.{State, nothing, grown, added, full, taken, closing, gather, gathered, and_then, latched, settled, resolve, Named, named, reading, outcome}

@@ -1,11 +1,11 @@
 -- One line judged, given the names of the lines before it.
-use Rattle.std.specs.Prelude.{ℕ, Bool, true, cond, ◌&&◌, List, [], ◌∷◌, is_some, Some, None, Ok, Err, Option, Result, ◌==◌}
+use Rattle.std.specs.Prelude.{ℕ, Bool, true, cond, ◌&&◌, List, is_some, Some, None, Ok, Err, Option, Result, ◌==◌}
 use Rattle.text.specs.Name.{is_name}
 use Rattle.circuit.specs.declared.fault.Refusal.{Refusal}
 use Rattle.circuit.specs.declared.fault.Refusal.TheVariants.{BadRecord, BadName, NameTaken, OperandUnknown, BadStart}
 use Rattle.circuit.specs.declared.nets.Net.{Net}
 use Rattle.circuit.specs.declared.nets.NetKind.{NetKind}
-use Rattle.circuit.specs.declared.nets.NetKind.TheVariants.{Input, Latch, And, Xor, Not}
+use Rattle.circuit.specs.declared.nets.NetKind.TheVariants.{Input, And, Xor, Not}
 use Rattle.circuit.specs.declared.nets.Start.{Start}
 use Rattle.circuit.specs.declared.nets.Start.TheVariants.{Zero, One, Free}
 use Rattle.circuit.specs.Names.{place_from}

@@ -1,5 +1,5 @@
 -- What a text is read as: the nets of a circuit and their names, or a refusal with its line.
-use Rattle.std.specs.Prelude.{◌≡◌, ℕ, ◌+◌, Bool, cond, List, [], ◌∷◌, ◌++◌, length, Some, None, Ok, Err, Option, Result, ◌==◌, nat_lt}
+use Rattle.std.specs.Prelude.{ℕ, ◌+◌, Bool, cond, List, [], ◌∷◌, ◌++◌, length, Some, None, Ok, Err, Option, Result, ◌==◌, nat_lt}
 use Rattle.text.specs.declared.class.Class.TheVariants.{Feed}
 use Rattle.text.specs.Cut.{cut}
 use Rattle.circuit.specs.declared.fault.ReadFault.{ReadFault}

@@ -1,7 +1,7 @@
 -- The fields of a line, and where they stand in the text.
 use Rattle.std.specs.Prelude.{◌≡◌, ℕ, List, [], ◌∷◌, Some, None, Option}
 use Rattle.text.specs.declared.class.Class.TheVariants.{Tab}
-use Rattle.text.specs.Cut.{Parts, cut}
+use Rattle.text.specs.Cut.{cut}
 use Rattle.text.specs.Parts.{bytes_of, Stands}
 use Rattle.circuit.specs.declared.record.Body.{Body}
 use Rattle.circuit.specs.declared.record.Body.TheVariants.{Input, Latch, And, Xor, Not}

@@ -1,5 +1,5 @@
 -- What a run of a circuit is. A circuit is the list of its nets' kinds, and a net is a place in that list.
-use Rattle.std.specs.Prelude.{◌≡◌, ℕ, zero, suc, ◌+◌, ◌<◌, ◌≤◌, Bool, true, false, cond, not, ◌&&◌, List, length, nat_lt, slice_index_or}
+use Rattle.std.specs.Prelude.{◌≡◌, ℕ, zero, suc, ◌<◌, ◌≤◌, Bool, true, false, cond, not, ◌&&◌, List, length, nat_lt, slice_index_or}
 use Rattle.circuit.specs.declared.nets.Start.{Start}
 use Rattle.circuit.specs.declared.nets.Start.TheVariants.{Zero, One, Free}
 use Rattle.circuit.specs.declared.nets.NetKind.{NetKind}

@@ -1,13 +1,12 @@
 -- What the answers mean.
-use Rattle.std.proofs.Common.{◌≡◌, ℕ, zero, suc, ◌+◌, ◌*◌, ◌<◌, ◌≤◌, Bool, true, false, cond, not, eqb, List, [], ◌∷◌, map, length, get_or, Some, None, Ok, Err, Option, Result, sym, refl, ap, ◌∙◌, subst, inl, inr, arith}
+use Rattle.std.proofs.Common.{◌≡◌, ℕ, zero, suc, ◌+◌, ◌*◌, ◌<◌, Bool, true, false, eqb, List, [], ◌∷◌, map, length, get_or, Some, Ok, Err, Option, Result, sym, refl, ap, ◌∙◌, subst, inl, inr, arith}
 use mathlib.Core.Bool.{false≢true}
 use lib.ListN.{length-replicate}
-use Rattle.std.specs.List.{ContainsAt as Has, AllByRecursion as All}
 use Rattle.std.proofs.ByRecursion.{All-weaker}
 use Rattle.std.proofs.lemmas.Bool.{cases_Bool, cond-true, cond-false, eqb-true, eqb-false}
 use Rattle.circuit.specs.declared.fault.ReadFault.{ReadFault}
 use Rattle.circuit.specs.declared.nets.NetKind.{NetKind}
-use Rattle.circuit.specs.Reading.{Named, named, reading}
+use Rattle.circuit.specs.Reading.{Named, reading}
 use Rattle.circuit.specs.Runs.{Values, WellFormed, kind}
 use Rattle.circuit.proofs.Soundness.{reading-sound}
 use Rattle.values.specs.Bits.{bits}
@@ -17,7 +16,6 @@ use Rattle.values.specs.ThreeLaws.{three_laws}
 use Rattle.values.specs.declared.three.Three.{Three}
 use Rattle.values.specs.declared.three.Three.TheVariants.{Zero, One, U}
 use Rattle.frames.specs.declared.hold.Hold.{Hold}
-use Rattle.frames.specs.Related.{Alike}
 use Rattle.frames.specs.Rules.{grid, is_open, FollowsRules}
 use Rattle.frames.specs.Worked.{worked}
 use Rattle.frames.proofs.Evaluated.{worked-follows}
@@ -28,19 +26,16 @@ use Rattle.trace.specs.declared.fault.TraceFault.{TraceFault}
 use Rattle.trace.specs.Dashes.{frame_of, given_at}
 use Rattle.trace.specs.Dashing.{OpenEntry}
 use Rattle.trace.specs.Fillings.{Admitted, Fills}
-use Rattle.trace.specs.Laid.{laid, held_laid, blank}
-use Rattle.trace.specs.Laws.{Fits}
-use Rattle.trace.specs.Layout.{entries, entry}
+use Rattle.trace.specs.Laid.{held_laid, blank}
+use Rattle.trace.specs.Layout.{entries}
 use Rattle.trace.specs.Readings.{trace_read}
 use Rattle.trace.specs.Texts.{Told}
 use Rattle.trace.proofs.Backs.{only-written}
 use Rattle.trace.proofs.Entering.{all-open, entries-have}
 use Rattle.replay.specs.declared.fault.ReplayFault.{ReplayFault}
-use Rattle.replay.specs.declared.report.Answer.{Answer}
-use Rattle.replay.specs.declared.report.Answer.TheVariants.{On, Off, Unsure}
 use Rattle.replay.specs.declared.report.Report.{Report}
 use Rattle.replay.specs.Answers.{is_dash, dash_count, bit_answer, three_answer, answer_of, report_of, hold_inside, after_trace, after_circuit, replayed}
-use Rattle.replay.specs.Law.{Sure, AnswerMeans, Lawful}
+use Rattle.replay.specs.Law.{AnswerMeans, Lawful}
 use Rattle.replay.proofs.Placing.{Pairs, laid-finds}
 
 -- a bit at an entry that is no dash

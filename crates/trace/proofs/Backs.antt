@@ -1,16 +1,14 @@
 -- Reading undoes writing, and only what writing gives is read.
-use Rattle.std.proofs.Common.{◌≡◌, ℕ, zero, suc, ◌+◌, ◌-◌, ◌<◌, ◌≤◌, Bool, true, false, cond, not, ◌&&◌, eqb, ltb, leb, ◌⊎◌, List, [], ◌∷◌, ◌++◌, length, get_or, take, drop, Some, None, Ok, Err, Option, Result, sym, refl, ap, ◌∙◌, subst, ap₂, inl, inr, ⊎_elim, append_assoc, append-nil, arith, length-append, take-append-drop}
-use Rattle.std.specs.Str.{bytes_eq}
-use Rattle.std.proofs.lemmas.Slice.Eq.{bytes_eq-Decides}
+use Rattle.std.proofs.Common.{◌≡◌, ℕ, suc, ◌+◌, ◌<◌, true, false, cond, eqb, ltb, leb, List, [], ◌∷◌, ◌++◌, length, get_or, take, drop, Some, None, Ok, Err, Option, Result, sym, refl, ap, ◌∙◌, subst, ⊎_elim, append_assoc, append-nil, arith, length-append, take-append-drop}
 use Rattle.std.proofs.lemmas.List.{take_at, drop_at, drop_more}
-use Rattle.std.proofs.lemmas.Bool.{false≢true, cond-true, cond-false, lt-ltb, ltb-true, eq-eqb, eqb-true, and_parts, and_from, cases_Bool, not-true, both_ways}
+use Rattle.std.proofs.lemmas.Bool.{cond-true, cond-false, lt-ltb, ltb-true, eqb-true, and_parts, cases_Bool}
 use Rattle.text.specs.declared.class.Class.{Class}
-use Rattle.text.specs.declared.class.Class.TheVariants.{Letter, Digit, Underscore, Tab, Feed, Other}
+use Rattle.text.specs.declared.class.Class.TheVariants.{Tab, Feed}
 use Rattle.circuit.specs.declared.nets.Net.{Net}
 use Rattle.circuit.specs.declared.nets.NetKind.{NetKind}
-use Rattle.text.specs.Class.{class_of, same, within}
+use Rattle.text.specs.Class.{class_of, same}
 use Rattle.text.specs.Cut.{stop}
-use Rattle.text.specs.Name.{in_names, all_in_names, is_name}
+use Rattle.text.specs.Name.{all_in_names}
 use Rattle.circuit.specs.Names.{net, name_at, place_from, GoodNames}
 use Rattle.trace.specs.declared.entry.Entry.{Entry}
 use Rattle.trace.specs.declared.fault.TraceFault.{TraceFault}
@@ -21,10 +19,9 @@ use Rattle.trace.specs.Layout.{entries}
 use Rattle.sinks.specs.Sinks.{strip}
 use Rattle.trace.specs.Texts.{Told, byte_of, decimal, head, line, lines, first_line, feed, trace_text}
 use Rattle.trace.specs.Readings.{Took, Parted, Begun, and_then, value_of, took, valued, line_at, field_at, number_of, run, target_at, first_at, on_line, ended, read_on, with_values, from_first, trace_read}
-use Rattle.trace.specs.Outcomes.{ReadsAs}
 use Rattle.trace.specs.Laws.{Fits, Exactly, Back, Stuck, StopsAt}
 use Rattle.trace.specs.declared.fault.WriteFault.{WriteFault}
-use Rattle.trace.specs.declared.fault.WriteFault.TheVariants.{Circuit, NoNet, NoTrace, Short}
+use Rattle.trace.specs.declared.fault.WriteFault.TheVariants.{NoNet, Short}
 use Rattle.trace.specs.Writing.{covered, named, sized, writing, writes, held_text, written}
 use Rattle.circuit.specs.declared.fault.ReadFault.{ReadFault}
 use Rattle.circuit.specs.Reading.{Named, reading}

@@ -1,10 +1,10 @@
 -- Where the target comes on by three-way values, each filling gives a run with the target on.
-use Rattle.std.proofs.Common.{◌≡◌, ℕ, ◌+◌, ◌<◌, ◌≤◌, Bool, true, false, cond, not, ◌&&◌, List, [], ◌∷◌, map, length, None, sym, refl, ap, ◌∙◌, subst, ap₂, arith}
+use Rattle.std.proofs.Common.{◌≡◌, ℕ, ◌+◌, ◌<◌, Bool, true, false, cond, not, ◌&&◌, List, [], ◌∷◌, map, length, None, refl, ap, ◌∙◌, subst, ap₂, arith}
 use mathlib.Core.Bool.{false≢true}
-use Rattle.std.specs.List.{ContainsAt as Has, AllByRecursion as All}
+use Rattle.std.specs.List.{AllByRecursion as All}
 use Rattle.std.proofs.ByRecursion.{all-has}
 use Rattle.circuit.specs.declared.nets.NetKind.{NetKind}
-use Rattle.circuit.specs.Runs.{Values, Run, WellFormed, differ}
+use Rattle.circuit.specs.Runs.{Values, WellFormed, differ}
 use Rattle.values.specs.Bits.{bits}
 use Rattle.values.specs.Laws.{Admits}
 use Rattle.values.specs.Threes.{threes, three_of, is_one}
@@ -21,7 +21,7 @@ use Rattle.trace.specs.declared.entry.Entry.{Entry}
 use Rattle.trace.specs.declared.goal.Goal.{Goal}
 use Rattle.trace.specs.Dashes.{frame_of, given_at, on, tried, dashed, put_at}
 use Rattle.trace.specs.Dashing.{OpenEntry}
-use Rattle.trace.specs.Fillings.{Admitted, Carried, Fills, Shows, Certain}
+use Rattle.trace.specs.Fillings.{Admitted, Carried, Fills, Certain}
 use Rattle.trace.specs.Layout.{entries}
 use Rattle.trace.specs.Texts.{Told}
 use Rattle.trace.proofs.Entering.{all-open, entries-have}

@@ -1,11 +1,9 @@
 -- Decimals of numbers below 64, there and back.
-use Rattle.std.proofs.Common.{◌≡◌, ℕ, zero, suc, ◌+◌, ◌-◌, ◌*◌, ◌/◌, ◌%◌, ◌<◌, ◌≤◌, Bool, true, false, cond, not, ◌&&◌, eqb, ltb, leb, ◌⊎◌, List, [], ◌∷◌, ◌++◌, Some, None, Decides, Option, unwrap_or, sym, refl, ap, ◌∙◌, subst, inl, inr, ⊎_elim, arith}
-use Rattle.std.proofs.lemmas.Bool.{cond-true, cond-false, lt-ltb, le-ltb, ltb-true, leb-true, eq-eqb, eqb-true, and_parts, cases_Bool}
-use Rattle.std.proofs.lemmas.Bool.Decides.{Decides-below_and, Decides-eqb}
-use Rattle.text.specs.declared.class.Class.{Class}
-use Rattle.text.specs.declared.class.Class.TheVariants.{Tab}
-use Rattle.text.specs.Class.{class_of, same, within}
-use Rattle.trace.specs.Texts.{decimal, digits_of}
+use Rattle.std.proofs.Common.{◌≡◌, ℕ, zero, suc, ◌+◌, ◌-◌, ◌*◌, ◌/◌, ◌%◌, ◌<◌, Bool, true, false, ◌&&◌, eqb, ltb, leb, List, [], ◌∷◌, Some, None, Option, unwrap_or, sym, refl, ap, ◌∙◌, ⊎_elim, arith}
+use Rattle.std.proofs.lemmas.Bool.{cond-true, cond-false, lt-ltb, le-ltb, ltb-true, leb-true, eqb-true, and_parts, cases_Bool}
+use Rattle.std.proofs.lemmas.Bool.Decides.{Decides-below_and}
+use Rattle.text.specs.Class.{within}
+use Rattle.trace.specs.Texts.{decimal}
 use Rattle.trace.specs.Readings.{and_then, digit_of, small, number_of}
 use Rattle.trace.specs.Laws.{Decimals}
 

@@ -1,13 +1,12 @@
 -- What reading a trace comes to, by its parts.
-use Rattle.std.proofs.Common.{◌≡◌, ℕ, ◌<◌, true, ◌&&◌, eqb, ltb, List, [], length, is_err, Some, None, Ok, Err, Result, sym, ap, ◌∙◌, subst, arith}
+use Rattle.std.proofs.Common.{◌≡◌, ℕ, true, ◌&&◌, eqb, ltb, List, [], length, Some, None, Ok, Err, Result, sym, ap, ◌∙◌, subst, arith}
 use Rattle.std.proofs.lemmas.Bool.{and_from, lt-ltb, eq-eqb}
-use Rattle.circuit.specs.declared.nets.Net.{Net}
 use Rattle.circuit.specs.declared.nets.NetKind.{NetKind}
 use Rattle.values.specs.declared.three.Three.{Three}
 use Rattle.trace.specs.declared.entry.Entry.{Entry}
 use Rattle.trace.specs.declared.fault.TraceFault.{TraceFault}
 use Rattle.trace.specs.declared.fault.TraceFault.TheVariants.{FirstLine}
-use Rattle.trace.specs.Laws.{Fits, Taken}
+use Rattle.trace.specs.Laws.{Taken}
 use Rattle.trace.specs.Layout.{entries}
 use Rattle.trace.specs.Outcomes.{ReadsAs}
 use Rattle.trace.specs.Readings.{Begun, first_at, read_on, from_first, with_values, trace_read}

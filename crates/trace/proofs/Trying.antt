@@ -1,9 +1,9 @@
 -- One entry tried as a dash.
-use Rattle.std.proofs.Common.{◌≡◌, ℕ, ◌+◌, ◌*◌, ◌/◌, ◌<◌, ◌≤◌, Bool, true, false, cond, ◌&&◌, eqb, List, [], length, get_or, None, Option, sym, refl, ap, ◌∙◌, subst, inl, inr, arith}
+use Rattle.std.proofs.Common.{◌≡◌, ℕ, ◌+◌, ◌*◌, ◌/◌, ◌<◌, Bool, true, false, cond, ◌&&◌, eqb, List, length, None, Option, sym, refl, ap, ◌∙◌, subst, inl, inr, arith}
 use Rattle.std.proofs.lemmas.Nat.{div-mul-add}
 use Rattle.std.proofs.lemmas.Bool.{cases_Bool, cond-true, cond-false, and_parts, eqb-true}
 use Rattle.circuit.specs.declared.nets.NetKind.{NetKind}
-use Rattle.circuit.specs.Runs.{kind, WellFormed}
+use Rattle.circuit.specs.Runs.{WellFormed}
 use Rattle.values.specs.Laws.{Algebra}
 use Rattle.values.specs.declared.three.Three.{Three}
 use Rattle.values.specs.declared.three.Three.TheVariants.{U}
@@ -11,15 +11,14 @@ use Rattle.values.specs.Threes.{threes, is_one}
 use Rattle.frames.specs.declared.hold.Hold.{Hold}
 use Rattle.frames.specs.Calls.{CellsFollow, Changes}
 use Rattle.frames.specs.Related.{Alike}
-use Rattle.frames.specs.Rules.{Given, grid, put, frames_in, FollowsRules}
-use Rattle.frames.specs.Worked.{worked}
+use Rattle.frames.specs.Rules.{Given, grid, frames_in, FollowsRules}
 use Rattle.frames.proofs.Evaluated.{worked-is}
 use Rattle.frames.proofs.Nearby.{rule-goes, same-keeps}
 use Rattle.frames.proofs.Opens.{follows-itself, open-stays}
 use Rattle.frames.proofs.Places.{frames-are, place-below}
 use Rattle.trace.specs.declared.entry.Entry.{Entry}
 use Rattle.trace.specs.declared.goal.Goal.{Goal}
-use Rattle.trace.specs.Dashes.{frame_of, place_of, put_at, on, tried}
+use Rattle.trace.specs.Dashes.{frame_of, place_of, put_at, on}
 use Rattle.trace.specs.Dashing.{Ready, OpenEntry, Worked, Dashes}
 
 -- what is given counts only where a net is open

@@ -1,15 +1,13 @@
 -- What writing answers.
-use Rattle.std.proofs.Common.{◌≡◌, ℕ, zero, suc, ◌+◌, ◌-◌, ◌<◌, ◌≤◌, Bool, true, false, cond, ◌&&◌, ltb, leb, ◌⊎◌, List, [], ◌∷◌, ◌++◌, length, get_or, take, drop, is_err, Some, None, Ok, Err, Option, Result, sym, refl, ap, ◌∙◌, subst, ap₂, inl, inr, ⊎_elim, append-nil, arith, take-append-drop}
-use lib.ListN.{length-map}
+use Rattle.std.proofs.Common.{◌≡◌, ℕ, suc, ◌+◌, ◌<◌, ◌≤◌, Bool, true, false, ◌&&◌, List, length, get_or, drop, is_err, Ok, Err, Result, sym, ap, ◌∙◌, arith}
 use Rattle.circuit.specs.declared.names.Names.{Names}
 use Rattle.circuit.specs.Named.{names_in}
-use Rattle.std.proofs.lemmas.Bool.{false≢true, cond-true, cond-false, le-leb, lt-leb, leb-true, leb-false, le-ltb, lt-ltb, and_left, and_right, and_from, cases_Bool, cases_lt}
+use Rattle.std.proofs.lemmas.Bool.{false≢true, cond-true, cond-false, le-leb, lt-leb, le-ltb, lt-ltb, and_left, and_right, and_from}
 use Rattle.std.proofs.lemmas.List.{at_drop_more, at_drop_all}
 use Rattle.circuit.specs.declared.nets.NetKind.{NetKind}
-use Rattle.trace.specs.declared.fault.WriteFault.{WriteFault}
 use Rattle.trace.specs.declared.fault.WriteFault.TheVariants.{NoNet, Short}
 use Rattle.trace.specs.Texts.{Told, trace_text}
-use Rattle.trace.specs.Writing.{has_name, covered, Measured, named, sized, writing}
+use Rattle.trace.specs.Writing.{has_name, covered, Measured, sized, writing}
 
 -- each net, one by one
 module _ (n : ℕ) (ks : List NetKind) (i : ℕ) (d : NetKind) (t : Bool) (h : i < length ks) (is : t ≡ has_name n i (get_or ks i d)) where

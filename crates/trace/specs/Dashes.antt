@@ -1,9 +1,9 @@
 -- Which entries of a trace become dashes.
-use Rattle.std.specs.Prelude.{◌≡◌, ℕ, ◌+◌, ◌*◌, Bool, true, false, cond, ◌&&◌, List, [], ◌∷◌, map, length, Some, None, Option, ◌==◌, nat_lt, slice_index_or}
+use Rattle.std.specs.Prelude.{ℕ, ◌+◌, ◌*◌, Bool, false, cond, ◌&&◌, List, [], ◌∷◌, map, length, Some, None, Option, ◌==◌, nat_lt, slice_index_or}
 use Rattle.circuit.specs.declared.nets.Frame.{Frame}
 use Rattle.circuit.specs.declared.nets.NetKind.{NetKind}
 use Rattle.values.specs.declared.three.Three.{Three}
-use Rattle.values.specs.declared.three.Three.TheVariants.{Zero, One, U}
+use Rattle.values.specs.declared.three.Three.TheVariants.{U}
 use Rattle.values.specs.Bits.{bits}
 use Rattle.values.specs.Threes.{threes, three_of, is_one}
 use Rattle.frames.specs.Rules.{Given, grid, put}

@@ -1,5 +1,5 @@
 -- The fillings of a trace. A filling puts 0 or 1 for each dash; the rules then give all other values.
-use Rattle.std.specs.Prelude.{◌≡◌, ℕ, true, List, [], ◌∷◌}
+use Rattle.std.specs.Prelude.{◌≡◌, true, List, [], ◌∷◌}
 use Rattle.circuit.specs.declared.nets.NetKind.{NetKind}
 use Rattle.circuit.specs.Runs.{Values, Run}
 use Rattle.values.specs.declared.three.Three.{Three}

@@ -1,10 +1,10 @@
 -- What keeping a trace answers, and leaves.
-use Rattle.std.specs.Prelude.{◌≡◌, ℕ, Bool, true, false, List, length, Some, Ok, Err, Result}
+use Rattle.std.specs.Prelude.{◌≡◌, Bool, true, false, List, length, Some, Ok, Err, Result}
 use Rattle.circuit.specs.declared.nets.NetKind.{NetKind}
 use Rattle.circuit.specs.Circuits.{nets_of}
 use Rattle.values.specs.declared.three.Three.{Three}
 use Rattle.values.specs.Threes.{threes}
-use Rattle.frames.specs.Rules.{Given, grid}
+use Rattle.frames.specs.Rules.{grid}
 use Rattle.trace.specs.declared.goal.Goal.{Goal}
 use Rattle.trace.specs.declared.recording.Recording.{Recording}
 use Rattle.trace.specs.Dashes.{on, dashed, puts_on, kept_trace}

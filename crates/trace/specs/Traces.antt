@@ -1,5 +1,4 @@
 -- What a trace says.
-use Rattle.std.specs.Prelude.{cond, Some, None, vec_items, Option}
 use Rattle.trace.specs.declared.view.Trace.{Trace}
 use Rattle.trace.specs.Texts.{Told}
 

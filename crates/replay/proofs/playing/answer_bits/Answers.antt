@@ -1,4 +1,4 @@
-use Rattle.std.proofs.Common.{◌≡◌, length, sym, ap, ◌∙◌, subst}
+use Rattle.std.proofs.Common.{length, sym, ap, ◌∙◌, subst}
 use lib.ListN.{length-map}
 use Rattle.circuit.specs.Circuits.{nets_of}
 use Rattle.values.specs.Threes.{is_one}

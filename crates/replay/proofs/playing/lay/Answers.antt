@@ -1,4 +1,4 @@
-use Rattle.std.proofs.Common.{◌≡◌, ap, ◌∙◌, arith}
+use Rattle.std.proofs.Common.{ap, ◌∙◌, arith}
 use Rattle.circuit.specs.Circuits.{nets_of}
 use Rattle.std.proofs.lemmas.List.{with_items_is}
 use Rattle.trace.specs.Laid.{held_laid}

@@ -1,9 +1,8 @@
-use Rattle.std.proofs.Common.{◌≡◌, ◌+◌, ◌*◌, ◌<◌, ◌≤◌, List, [], ◌∷◌, ◌++◌, map, length, vec_items, sym, refl, ap, ◌∙◌, subst, append_assoc, append-nil, arith}
+use Rattle.std.proofs.Common.{◌≡◌, ◌+◌, ◌<◌, ◌≤◌, [], ◌∷◌, ◌++◌, map, length, vec_items, sym, refl, ap, ◌∙◌, subst, append_assoc, append-nil, arith}
 use Rattle.std.specs.List.{AllByRecursion as All}
 use Rattle.std.proofs.ByRecursion.{All-weaker}
 use Rattle.circuit.specs.Circuits.{nets_of}
 use Rattle.frames.proofs.Places.{place-below}
-use Rattle.trace.specs.declared.entry.Entry.{Entry}
 use Rattle.trace.specs.Coming.{left}
 use Rattle.trace.specs.Dashes.{frame_of, place_of, grid_at}
 use Rattle.trace.specs.Dashing.{OpenEntry}

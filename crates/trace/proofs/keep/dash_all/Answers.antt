@@ -1,7 +1,6 @@
-use Rattle.std.proofs.Common.{◌≡◌, ◌<◌, List, [], ◌∷◌, length, sym, refl, ap, ◌∙◌, subst, arith}
+use Rattle.std.proofs.Common.{◌≡◌, sym, refl, ap, ◌∙◌, subst}
 use Rattle.std.specs.List.{AllByRecursion as All}
 use Rattle.circuit.specs.Circuits.{nets_of}
-use Rattle.trace.specs.declared.entry.Entry.{Entry}
 use Rattle.trace.specs.Coming.{left}
 use Rattle.trace.specs.Dashes.{tried, dashed}
 use Rattle.trace.specs.Dashing.{Ready, OpenEntry, Worked}

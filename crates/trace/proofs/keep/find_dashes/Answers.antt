@@ -1,9 +1,8 @@
-use Rattle.std.proofs.Common.{◌≡◌, length, sym, ◌∙◌, subst}
+use Rattle.std.proofs.Common.{length, sym, ◌∙◌, subst}
 use Rattle.circuit.specs.Circuits.{nets_of}
 use Rattle.values.specs.Threes.{threes}
 use Rattle.frames.specs.Rules.{grid}
-use Rattle.trace.specs.Dashes.{on}
-use Rattle.trace.specs.Dashing.{Ready, Worked}
+use Rattle.trace.specs.Dashing.{Ready}
 use Rattle.trace.proofs.Trying.{cells-worked, on-is}
 use Rattle.trace.proofs.keep.find_dashes.Goals as goal
 

@@ -1,9 +1,8 @@
-use Rattle.std.proofs.Common.{◌≡◌, ℕ, ◌<◌, length, sym, refl, ap, ◌∙◌, subst, arith}
+use Rattle.std.proofs.Common.{subst}
 use Rattle.circuit.specs.Circuits.{nets_of}
 use Rattle.values.specs.Threes.{threes}
 use Rattle.values.specs.declared.three.Three.TheVariants.{U}
 use Rattle.frames.specs.Calls.{Changes}
-use Rattle.trace.specs.Dashes.{frame_of, place_of}
 use Rattle.trace.proofs.Trying.{place-in, stays, goes-back}
 use Rattle.trace.proofs.keep.try_dash.Goals as goal
 

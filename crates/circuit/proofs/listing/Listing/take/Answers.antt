@@ -1,4 +1,4 @@
-use Rattle.std.proofs.Common.{sym, refl, ◌∙◌, arith}
+use Rattle.std.proofs.Common.{refl, arith}
 use Rattle.text.specs.Readers.{left}
 use Rattle.circuit.proofs.Gathering.{take-full, take-refused, take-added}
 use Rattle.circuit.proofs.listing.Listing.take.Goals as goal

@@ -1,4 +1,4 @@
-use Rattle.std.proofs.Common.{◌≡◌, ℕ, true, List, length, is_some, Some, None, Ok, Err, Option, Result, sym, refl, ap, ◌∙◌, subst, rules}
+use Rattle.std.proofs.Common.{◌≡◌, true, length, is_some, Some, None, Ok, Option, Result, sym, refl, ap, ◌∙◌, rules}
 use Rattle.circuit.specs.declared.circuit.Circuit.{Circuit}
 use Rattle.circuit.specs.Circuits.{nets_of, names_of}
 use Rattle.circuit.specs.Reading.{named}

@@ -1,13 +1,10 @@
-use Rattle.std.proofs.Common.{◌≡◌, ℕ, ◌+◌, ◌*◌, ◌<◌, ◌≤◌, true, false, List, map, length, Some, vec_items, vec_len, sym, refl, ap, ◌∙◌, subst, mul-le-mul, arith}
+use Rattle.std.proofs.Common.{◌≡◌, ◌+◌, ◌*◌, ◌<◌, ◌≤◌, length, Some, vec_items, sym, refl, ap, ◌∙◌, mul-le-mul, arith}
 use lib.ListN.{length-map}
 use Rattle.std.specs.Vec.{with_items}
 use Rattle.std.proofs.lemmas.List.{with_items_is}
 use Rattle.std.proofs.lemmas.Bool.{and_from, lt-ltb, eq-eqb}
 use Rattle.circuit.specs.Circuits.{nets_of}
-use Rattle.values.specs.Threes.{three_of}
-use Rattle.values.specs.declared.three.Three.{Three}
 use Rattle.trace.specs.Dashes.{kept_trace}
-use Rattle.trace.specs.Keeping.{Found}
 use Rattle.trace.specs.Layout.{entries}
 use Rattle.trace.specs.Texts.{Told}
 use Rattle.trace.proofs.Keptly.{ready, not-kept, puts-on, values-are, kept-certain}

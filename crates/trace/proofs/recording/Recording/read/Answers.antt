@@ -1,13 +1,11 @@
-use Rattle.std.proofs.Common.{◌≡◌, ℕ, ◌<◌, List, length, Some, None, Ok, Err, vec_items, sym, refl, ap, ◌∙◌, arith, rules}
-use lib.ListN.{length-map}
+use Rattle.std.proofs.Common.{◌≡◌, ◌<◌, length, Err, vec_items, refl, ap, ◌∙◌, arith, rules}
 use Rattle.std.proofs.lemmas.Result.{err_from_is_err_and}
 use Rattle.circuit.specs.Circuits.{nets_of, names_of}
 use Rattle.circuit.specs.Named.{names_in}
 use Rattle.circuit.proofs.Gathering.{count}
 use Rattle.trace.specs.Coming.{left}
 use Rattle.trace.specs.Layout.{entries}
-use Rattle.trace.specs.Readings.{Begun, read_on, trace_read}
-use Rattle.trace.specs.Texts.{Told}
+use Rattle.trace.specs.Readings.{Begun}
 use Rattle.trace.proofs.Backs.{only-written}
 use Rattle.trace.proofs.Outcome.{first-missing, read-ok, read-err, fits-read}
 use Rattle.trace.proofs.Picking.{few-entries}

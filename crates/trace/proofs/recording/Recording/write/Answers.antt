@@ -1,4 +1,4 @@
-use Rattle.std.proofs.Common.{◌≡◌, ℕ, List, length, rules}
+use Rattle.std.proofs.Common.{◌≡◌, length, rules}
 use Rattle.circuit.specs.Circuits.{nets_of}
 use Rattle.circuit.specs.Reading.{reading}
 use Rattle.trace.specs.Recordings.{held_trace}
