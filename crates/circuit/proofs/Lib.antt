@@ -4,5 +4,4 @@ pub mod Lawful
 pub mod OnlyWritten
 pub mod Places
 pub mod ReadBack
-pub mod Settling
 pub mod Soundness

@@ -1,6 +1,8 @@
 pub mod Runs
 pub mod Faults
 pub mod Names
+pub mod Entries
+pub mod Lookups
 pub mod Circuits
 pub mod Named
 pub mod Record
@@ -9,5 +11,4 @@ pub mod Judge
 pub mod Reading
 pub mod Written
 pub mod Drafts
-pub mod Listings
 pub mod Accepts

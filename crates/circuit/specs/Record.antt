@@ -21,6 +21,13 @@ pub record Line : Type 0 where
 abbrev pub line : List ℕ → Said → Option Line
 line n s = Some (record { name = n; said = s })
 
+-- the letter of a field that is one byte
+abbrev pub letter_in : List ℕ → Option ℕ
+letter_in [] = None
+letter_in (b ∷ []) = Some b
+letter_in (b ∷ c ∷ bs) = None
+
+-- the same, and 0, which is no letter of a record, for any other field
 abbrev pub letter_of : List ℕ → ℕ
 letter_of [] = 0
 letter_of (b ∷ []) = b

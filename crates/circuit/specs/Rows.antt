@@ -6,22 +6,19 @@ use Rattle.text.specs.Parts.{bytes_of, Stands}
 use Rattle.circuit.specs.declared.record.Body.{Body}
 use Rattle.circuit.specs.declared.record.Body.TheVariants.{Input, Latch, And, Xor, Not}
 use Rattle.circuit.specs.declared.record.Fields.{Fields}
-use Rattle.circuit.specs.declared.record.Fields.TheVariants.{Two, Three, Four, Other}
+use Rattle.circuit.specs.declared.record.Fields.TheVariants.{Two, Three, Four}
 use Rattle.circuit.specs.declared.record.Row.{Row}
-use Rattle.circuit.specs.Record.{row_of}
 
 abbrev pub Sorted : Fields → List ℕ → Type 0
 Sorted (Two k t) l = cut Tab l ≡ record { closed = bytes_of k ∷ []; tail = bytes_of t }
 Sorted (Three k n t) l = cut Tab l ≡ record { closed = bytes_of k ∷ bytes_of n ∷ []; tail = bytes_of t }
 Sorted (Four k n a t) l = cut Tab l ≡ record { closed = bytes_of k ∷ bytes_of n ∷ bytes_of a ∷ []; tail = bytes_of t }
-Sorted Other l = row_of l ≡ None
 
 -- what may be a name stands where it says
 abbrev pub FieldsStand : List ℕ → Fields → Type 0
 FieldsStand text (Two k t) = Stands text t
 FieldsStand text (Three k n t) = Stands text n
 FieldsStand text (Four k n a t) = Stands text n × Stands text a
-FieldsStand text Other = Unit {0}
 
 abbrev pub BodyStands : List ℕ → Body → Type 0
 BodyStands text Input = Unit {0}

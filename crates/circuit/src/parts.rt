@@ -2,7 +2,7 @@
 ghost use Rattle.std.specs.Prelude.{◌≡◌, ◌≤◌, [], length, IfOk};
 ghost use Rattle.circuit.specs.Circuits.{nets_of, Blank};
 
-use crate::circuit::Circuit;
+use crate::circuit::{Circuit, Nets};
 use crate::listing::Listing;
 use crate::nets::NetKind;
 use std::alloc::{AllocError, Global};
@@ -15,7 +15,7 @@ impl Circuit {
     pub fn new(heap: Global) -> Result<Circuit, AllocError>
         ensures { IfOk result Blank }
     {
-        let nets = Vec::with_capacity(heap, MOST_NETS)?;
+        let nets = Nets::new(heap)?;
         let listing = Listing::new(heap)?;
         Ok(Circuit { nets, listing })
     }

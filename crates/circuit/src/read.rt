@@ -1,35 +1,28 @@
 // Reading a circuit.
-ghost use Rattle.std.specs.Prelude.{◌≡◌, ◌≤◌, [], map, vec_capacity};
+ghost use Rattle.std.specs.Prelude.{◌≡◌, []};
 ghost use Rattle.circuit.specs.Accepts.{Reads, Accepts};
 ghost use Rattle.circuit.specs.Drafts.{state_of};
 ghost use Rattle.circuit.specs.Reading.{outcome, reading, named};
 
-use crate::circuit::Circuit;
+use crate::circuit::{Circuit, Nets};
 use crate::fault::{ReadFault, Refusal};
 use crate::listing::Listing;
-use crate::nets::NetKind;
-use crate::settle::resolve_all;
 
 // The most bytes that a circuit text has.
 pub const LONGEST_TEXT: usize = 16384;
 
 impl Listing {
     // Lists the lines of a text, and writes its nets.
-    fn read(&mut self, text: &[u8], nets: &mut Vec<NetKind>) -> Result<(), ReadFault>
-        requires empty { nets.old.items ≡ [] }
-        requires room { 256 ≤ vec_capacity nets.old }
-        ensures is { outcome result (named (state_of text.now self.new).names nets.new.items) ≡ reading text.now }
-        ensures room { vec_capacity nets.new ≡ vec_capacity nets.old }
+    fn read(&mut self, text: &[u8], nets: &mut Nets) -> Result<(), ReadFault>
+        requires { nets.old ≡ [] }
+        ensures { outcome result (named (state_of text.now self.new).names nets.new) ≡ reading text.now }
     {
         self.clear();
         if text.len() > LONGEST_TEXT {
-            return Err(ReadFault {
-                refusal: Refusal::TextTooLong,
-                line: 0,
-            });
+            return Err(Refusal::TextTooLong.at(0));
         }
         self.gather(text)?;
-        resolve_all(text, self.names.as_slice(), self.drafts.as_slice(), nets)
+        self.lookup(text).resolve(nets)
     }
 }
 
@@ -40,6 +33,7 @@ impl Circuit {
     {
         self.nets.clear();
         let r = self.listing.read(text, &mut self.nets);
+        // Not `?`: the refusal is passed on as it is, once the lists are cleared.
         if r.is_err() {
             self.nets.clear();
             self.listing.clear();
@@ -48,6 +42,7 @@ impl Circuit {
     }
 
     // Reads a text: what writing gives for a circuit, and nothing else. A refused reading leaves a circuit of no nets.
+    #[tactic(auto, using(crate::proofs::Lawful::lawful))]
     pub fn read(&mut self, text: &[u8]) -> Result<(), ReadFault>
         ensures reads { Reads result text.now self.new }
         ensures accepts { Accepts result text.now self.new }

@@ -1,14 +1,13 @@
 -- What follows the rules is what is worked out place by place.
-use Rattle.std.proofs.Common.{◌≡◌, ℕ, zero, suc, ◌+◌, ◌-◌, ◌*◌, ◌/◌, ◌%◌, ◌<◌, false, List, length, get_or, Option, sym, refl, ap, ◌∙◌, subst, ap₂, add-one, arith}
+use Rattle.std.proofs.Common.{◌≡◌, ℕ, zero, suc, ◌+◌, ◌-◌, ◌*◌, ◌/◌, ◌%◌, ◌<◌, false, List, length, get_or, Option, refl, ap, ◌∙◌, ap₂, arith}
 use native.Mathlib.Decide.{dec_lt}
 use Rattle.std.proofs.lemmas.Nat.{div-mul-add, mod-mul-add}
-use Rattle.std.proofs.lemmas.List.{length_push, get_or_append_left, get_or_push}
+use Rattle.std.proofs.lemmas.Grind.{common_steps}
 use Rattle.values.specs.Laws.{Algebra}
 use Rattle.circuit.specs.Runs.{WellFormed}
 use Rattle.circuit.specs.declared.nets.NetKind.{NetKind}
 use Rattle.frames.specs.declared.hold.Hold.{Hold}
 use Rattle.frames.specs.Rules.{Given, grid, rule, FollowsRules}
-use Rattle.frames.specs.Related.{Alike}
 use Rattle.frames.specs.Worked.{cells_to, worked}
 use Rattle.frames.proofs.Places.{row-before}
 use Rattle.frames.proofs.Nearby.{Near, rule-same}
@@ -18,11 +17,11 @@ module _ {K : Type 0} (A : Algebra K) (nets : List NetKind) (formed : WellFormed
   cells-length : (p : ℕ) → length (cells_to A nets hold G p) ≡ p
   unfolding cells_to
   cells-length zero = refl
-  cells-length (suc p) = length_push _ _ ∙ ap (λ k. k + 1) (cells-length p) ∙ add-one p
+  cells-length (suc p) = grind (arith, common_steps, cells-length p)
 
   kept : (p i : ℕ) → i < p → get_or (cells_to A nets hold G (suc p)) i (A.only false) ≡ get_or (cells_to A nets hold G p) i (A.only false)
   unfolding cells_to
-  kept p i lt = get_or_append_left (cells_to A nets hold G p) _ (A.only false) i (subst (λ k. i < k) (sym (cells-length p)) lt)
+  kept p i lt = grind (arith, common_steps, cells-length p)
 
   -- what is worked out stays
   cells-stay : (p i : ℕ) → i < p → get_or (cells_to A nets hold G p) i (A.only false) ≡ get_or (cells_to A nets hold G (suc i)) i (A.only false)
@@ -32,7 +31,7 @@ module _ {K : Type 0} (A : Algebra K) (nets : List NetKind) (formed : WellFormed
 
   cell-is : (p : ℕ) → get_or (cells_to A nets hold G (suc p)) p (A.only false) ≡ rule A nets hold G (grid A (length nets) (cells_to A nets hold G p)) (p / length nets) (p % length nets)
   unfolding cells_to
-  cell-is p = get_or_push (cells_to A nets hold G p) _ (A.only false) p (cells-length p)
+  cell-is p = grind (arith, common_steps, cells-length p)
 
   pub worked-follows : (frames : ℕ) → FollowsRules A nets hold G frames (worked A nets hold G)
   worked-follows frames t n h k =
@@ -50,9 +49,3 @@ module _ {K : Type 0} (A : Algebra K) (nets : List NetKind) (formed : WellFormed
 
   pub worked-is : (frames : ℕ) (ρ : ℕ → ℕ → K) → FollowsRules A nets hold G frames ρ → (t n : ℕ) → t < frames → n < length nets → ρ t n ≡ worked A nets hold G t n
   worked-is frames ρ follows = rules-determine A nets formed hold frames G G (λ t n h k o. refl) ρ (worked A nets hold G) follows (worked-follows frames)
-
--- what is given counts only where a net is open
-pub worked-alike : {K : Type 0} (A : Algebra K) (nets : List NetKind) → WellFormed nets → (hold : Option Hold) (frames : ℕ) (G G' : Given K) → Alike ◌≡◌ nets frames G G'
-    → (t n : ℕ) → t < frames → n < length nets → worked A nets hold G t n ≡ worked A nets hold G' t n
-worked-alike A nets formed hold frames G G' alike =
-    rules-determine A nets formed hold frames G G' alike (worked A nets hold G) (worked A nets hold G') (worked-follows A nets formed hold G frames) (worked-follows A nets formed hold G' frames)

@@ -4,3 +4,4 @@ pub mod Related
 pub mod Theorems
 pub mod Worked
 pub mod Reworked
+pub mod Place

@@ -1,5 +1,5 @@
 -- Cells that were worked out anew, over what stood there.
-use Rattle.std.specs.Prelude.{◌≡◌, ℕ, ◌+◌, ◌*◌, ◌<◌, ◌≤◌, false, List, length, None, Option, slice_index_or}
+use Rattle.std.specs.Prelude.{◌≡◌, ℕ, ◌+◌, ◌*◌, ◌<◌, ◌≤◌, false, List, length, Option, slice_index_or}
 use Rattle.values.specs.Laws.{Algebra}
 use Rattle.circuit.specs.declared.nets.NetKind.{NetKind}
 use Rattle.frames.specs.declared.hold.Hold.{Hold}
@@ -12,7 +12,7 @@ pub record Reworked {K : Type 0} (A : Algebra K) (nets : List NetKind) (hold : O
   pub follows : (t n : ℕ) → n < length nets → p ≤ t * length nets + n → t * length nets + n < q
       → grid A (length nets) new t n ≡ rule A nets hold (grid A (length nets) old) (grid A (length nets) new) t n
 
--- The frames from `from` up to `frames` follow the rules from what stands in the cells themselves, with no net held.
-abbrev pub Steady : {K : Type 0} → Algebra K → List NetKind → (from frames : ℕ) → List K → Type 0
-Steady A nets from frames cells =
-    (t n : ℕ) → from ≤ t → t < frames → n < length nets → grid A (length nets) cells t n ≡ rule A nets None (grid A (length nets) cells) (grid A (length nets) cells) t n
+-- The frames from `from` up to `frames` follow the rules from what stands in the cells themselves.
+abbrev pub Steady : {K : Type 0} → Algebra K → List NetKind → Option Hold → (from frames : ℕ) → List K → Type 0
+Steady A nets hold from frames cells =
+    (t n : ℕ) → from ≤ t → t < frames → n < length nets → grid A (length nets) cells t n ≡ rule A nets hold (grid A (length nets) cells) (grid A (length nets) cells) t n

@@ -3,6 +3,7 @@
 
 mod changes;
 mod hold;
+mod place;
 mod rules;
 mod theorems;
 mod work;

@@ -1,13 +1,12 @@
 // Keeps traces of large circuits over 64 frames, and prints how many dashes they have: what keeping costs.
 #![tactic(auto)]
 
-use anyhow::anyhow;
+use anyhow::Context;
 use circuit::circuit::Circuit;
 use circuit::nets::{Frame, Net};
 use std::alloc::{AllocError, Global};
 use trace::goal::Goal;
 use trace::recording::Recording;
-use values::Three;
 
 const LAST: u32 = 63;
 
@@ -32,47 +31,31 @@ fn parity(heap: Global) -> Result<String, AllocError> {
     Ok(text)
 }
 
-fn dashes(values: &[Three]) -> usize {
-    let mut count = 0usize;
-    for value in values {
-        if *value == Three::U {
-            count = count.saturating_add(1);
-        }
-    }
-    count
-}
-
 // Keeps the trace of a solution in which every net is on.
-fn keep(rt: &HostRuntime, name: &str, text: &str, bit: bool) -> anyhow::Result<()> {
+fn keep(rt: &HostRuntime, name: &str, text: &str) -> anyhow::Result<()> {
     let heap = rt.alloc();
     let mut circuit = Circuit::new(heap)?;
-    if circuit.read(text.as_bytes()).is_err() {
-        return Err(anyhow!("the circuit is refused"));
-    }
+    circuit
+        .read(text.as_bytes())
+        .context("the circuit is refused")?;
     let nets = circuit.len();
     let mut recording = Recording::new(heap, circuit)?;
-    let solution = vec![in heap; bit; nets * 64]?;
+    let solution = vec![in heap; true; nets * 64]?;
     let goal = Goal {
         last: Frame(LAST),
+        // the cast is proved: a circuit has at most 256 nets
         target: Net(nets.saturating_sub(1) as u32),
     };
-    match recording.keep(&solution, goal) {
-        Ok(()) => {}
-        Err(_) => return Err(anyhow!("the target is off")),
-    }
-    match recording.trace() {
-        Some(trace) => {
-            let entries = trace.values.len();
-            let open = dashes(trace.values);
-            println!(rt; "{name}: {nets} nets, {entries} entries, {open} dashes")?;
-            Ok(())
-        }
-        None => Err(anyhow!("no trace is held")),
-    }
+    recording.keep(&solution, goal).context("no trace is kept")?;
+    let trace = recording.trace().context("no trace is held")?;
+    let entries = trace.values.len();
+    let open = trace.dashes();
+    println!(rt; "{name}: {nets} nets, {entries} entries, {open} dashes")?;
+    Ok(())
 }
 
 fn main(rt: HostRuntime) -> anyhow::Result<()> {
     let heap = rt.alloc();
-    keep(&rt, "wide", wide(heap)?.as_str(), true)?;
-    keep(&rt, "parity", parity(heap)?.as_str(), true)
+    keep(&rt, "wide", wide(heap)?.as_str())?;
+    keep(&rt, "parity", parity(heap)?.as_str())
 }

@@ -1,17 +1,13 @@
 // Plays a trace on a circuit, both read from files, with one net held or none.
 #![tactic(auto)]
 
-mod words;
-
-use anyhow::anyhow;
-use frames::Hold;
+use anyhow::{Context, anyhow};
 use replay::fault::ReplayFault;
 use replay::record::HoldRecord;
 use replay::replayer::Replayer;
 use replay::report::Report;
 use std::process::ExitCode;
 use std::{env, fs};
-use words::{answer_word, sentence};
 
 const USAGE: &str = "usage: player CIRCUIT TRACE [NET-NAME 0|1]";
 
@@ -23,6 +19,7 @@ struct Request {
     hold: Option<(String, bool)>,
 }
 
+// By hand, since `parse` of a `bool` reads true and false.
 fn bit_of(word: &str) -> Option<bool> {
     match word {
         "0" => Some(false),
@@ -36,13 +33,9 @@ fn hold_asked(rt: &HostRuntime) -> anyhow::Result<Option<(String, bool)>> {
     let Some(name) = words.next() else {
         return Ok(None);
     };
-    let Some(value) = words.next() else {
-        return Err(anyhow!(USAGE));
-    };
-    match bit_of(value.as_str()) {
-        Some(bit) => Ok(Some((name, bit))),
-        None => Err(anyhow!(USAGE)),
-    }
+    let value = words.next().context(USAGE)?;
+    let bit = bit_of(value.as_str()).context(USAGE)?;
+    Ok(Some((name, bit)))
 }
 
 fn asked(rt: &HostRuntime) -> anyhow::Result<Request> {
@@ -51,9 +44,8 @@ fn asked(rt: &HostRuntime) -> anyhow::Result<Request> {
         return Err(anyhow!(USAGE));
     }
     let _ = words.next();
-    let (Some(circuit), Some(trace)) = (words.next(), words.next()) else {
-        return Err(anyhow!(USAGE));
-    };
+    let circuit = words.next().context(USAGE)?;
+    let trace = words.next().context(USAGE)?;
     let hold = hold_asked(rt)?;
     Ok(Request {
         circuit,
@@ -66,37 +58,30 @@ fn held(
     replayer: &mut Replayer,
     circuit: &[u8],
     trace: &[u8],
-    holds: &mut HoldRecord,
     name: &str,
     bit: bool,
 ) -> Result<Report, ReplayFault> {
-    let hold: Hold = replayer.hold_named(circuit, name.as_bytes(), bit)?;
-    replayer.replay_held(circuit, trace, holds, hold)
+    let hold = replayer.hold_named(circuit, name.as_bytes(), bit)?;
+    replayer.replay_held(circuit, trace, &mut HoldRecord::new(), hold)
 }
 
 fn play(rt: &HostRuntime, request: &Request) -> anyhow::Result<Result<Report, ReplayFault>> {
     let circuit = fs::read(rt, request.circuit.as_str())?;
     let trace = fs::read(rt, request.trace.as_str())?;
     let mut replayer = Replayer::new(rt.alloc())?;
-    let mut holds = HoldRecord::new();
     match &request.hold {
-        Some((name, bit)) => Ok(held(
-            &mut replayer,
-            &circuit,
-            &trace,
-            &mut holds,
-            name.as_str(),
-            *bit,
-        )),
-        None => Ok(replayer.replay(&circuit, &trace, &holds)),
+        Some((name, bit)) => Ok(held(&mut replayer, &circuit, &trace, name.as_str(), *bit)),
+        None => Ok(replayer.replay(&circuit, &trace, &HoldRecord::new())),
     }
 }
 
 fn show(rt: &HostRuntime, report: Report) -> anyhow::Result<()> {
-    let nets = report.nets;
-    let frames = report.frames;
-    let dashes = report.dashes;
-    let answer = answer_word(report.answer);
+    let Report {
+        nets,
+        frames,
+        dashes,
+        answer,
+    } = report;
     println!(rt; "nets {nets}, frames {frames}, dashes {dashes}: {answer}")?;
     Ok(())
 }
@@ -105,7 +90,7 @@ fn refuse(rt: &HostRuntime, fault: ReplayFault) -> anyhow::Result<()> {
     let number = fault.number();
     let line = fault.line();
     println!(rt; "no\t{number}\t{line}")?;
-    Err(anyhow!(sentence(number)))
+    Err(fault.into())
 }
 
 fn run(rt: &HostRuntime) -> anyhow::Result<()> {

@@ -1,5 +1,5 @@
 -- So many cells as the trace's frames have.
-use Rattle.std.proofs.Common.{◌≡◌, ℕ, ◌+◌, ◌*◌, ◌≤◌, List, [], ◌∷◌, length, set, replicate, Some, None, Option, sym, refl, ap, ◌∙◌, mul-le-mul, arith, length-set}
+use Rattle.std.proofs.Common.{◌≡◌, ℕ, ◌+◌, ◌*◌, List, [], ◌∷◌, length, set, replicate, Some, None, Option, sym, refl, ap, ◌∙◌, arith, length-set}
 use lib.ListN.{length-replicate}
 use Rattle.circuit.specs.declared.nets.Net.{Net}
 use Rattle.circuit.specs.declared.nets.NetKind.{NetKind}
@@ -15,12 +15,13 @@ use Rattle.trace.specs.Laid.{laid, held_laid, blank}
 use Rattle.trace.specs.Layout.{entries}
 use Rattle.trace.specs.Recordings.{held_trace}
 use Rattle.trace.specs.Texts.{Told}
+use Rattle.trace.specs.Traces.{dash_count}
 use Rattle.trace.specs.Layout.{frame_at}
 use Rattle.trace.proofs.Recorded.{fitting}
 use Rattle.frames.specs.declared.hold.Hold.{Hold}
 use Rattle.replay.specs.declared.report.Answer.{Answer}
 use Rattle.replay.specs.declared.report.Report.{Report}
-use Rattle.replay.specs.Answers.{dash_count, answer_by, goal_of, report_of}
+use Rattle.replay.specs.Answers.{answer_by, goal_of, report_of}
 
 length-laid : (N : ℕ) (es : List Entry) (vs cells : List Three) → length (laid N es vs cells) ≡ length cells
 length-laid N [] vs cells = refl
@@ -32,12 +33,6 @@ length-held nets None cells = refl
 length-held nets (Some t) cells = length-laid (length nets) (entries nets t.last) t.values cells
 
 module _ (r : Recording) (t : Told) (held : held_trace r ≡ Some t) (w : ℕ) (width : w ≡ length (nets_of r.circuit)) where
-  pub few-cells : (t.last + 1) * w ≤ 16384
-  few-cells =
-      let frames : t.last + 1 ≤ 64 = omega (arith, (fitting r t held).short) in
-      let nets : w ≤ 256 = omega (arith, width, r.circuit.few, r.circuit.nets.ok.0) in
-      omega (arith, mul-le-mul frames nets)
-
   pub cells-ready : (g : Goal) → g.last.0 ≡ t.last → g.target ≡ t.target → (C : List Three) → C ≡ held_laid (nets_of r.circuit) (held_trace r) (replicate ((t.last + 1) * w) Zero) → Ready (nets_of r.circuit) g (length C)
   cells-ready g last target C is =
       let fit = fitting r t held in

@@ -1,8 +1,9 @@
 -- What the answers mean.
-use Rattle.std.proofs.Common.{◌≡◌, ℕ, zero, suc, ◌+◌, ◌*◌, ◌<◌, Bool, true, false, eqb, List, [], ◌∷◌, map, length, get_or, Some, Ok, Err, Option, Result, sym, refl, ap, ◌∙◌, subst, inl, inr, arith}
+use Rattle.std.proofs.Common.{◌≡◌, ℕ, zero, suc, ◌+◌, ◌*◌, ◌<◌, Bool, true, false, cond, eqb, List, [], ◌∷◌, map, length, get_or, Some, Ok, Err, Option, Result, sym, refl, ap, ◌∙◌, subst, inl, inr, arith}
 use mathlib.Core.Bool.{false≢true}
 use lib.ListN.{length-replicate}
 use Rattle.std.proofs.ByRecursion.{All-weaker}
+use Rattle.std.proofs.lemmas.List.Sums.{sum_by-cons}
 use Rattle.std.proofs.lemmas.Bool.{cases_Bool, cond-true, cond-false, eqb-true, eqb-false}
 use Rattle.circuit.specs.declared.fault.ReadFault.{ReadFault}
 use Rattle.circuit.specs.declared.nets.NetKind.{NetKind}
@@ -30,11 +31,12 @@ use Rattle.trace.specs.Laid.{held_laid, blank}
 use Rattle.trace.specs.Layout.{entries}
 use Rattle.trace.specs.Readings.{trace_read}
 use Rattle.trace.specs.Texts.{Told}
+use Rattle.trace.specs.Traces.{is_dash, dash_count}
 use Rattle.trace.proofs.Backs.{only-written}
 use Rattle.trace.proofs.Entering.{all-open, entries-have}
 use Rattle.replay.specs.declared.fault.ReplayFault.{ReplayFault}
 use Rattle.replay.specs.declared.report.Report.{Report}
-use Rattle.replay.specs.Answers.{is_dash, dash_count, bit_answer, three_answer, answer_of, report_of, hold_inside, after_trace, after_circuit, replayed}
+use Rattle.replay.specs.Answers.{bit_answer, three_answer, answer_of, report_of, hold_inside, after_trace, after_circuit, replayed}
 use Rattle.replay.specs.Law.{AnswerMeans, Lawful}
 use Rattle.replay.proofs.Placing.{Pairs, laid-finds}
 
@@ -46,9 +48,12 @@ one-is One b h d = sym h
 one-is U b h d = absurd (false≢true (sym d))
 
 no-dash : (v : Three) (vs : List Three) → dash_count (v ∷ vs) ≡ 0 → (is_dash v ≡ false) × (dash_count vs ≡ 0)
-no-dash Zero vs e = (refl, omega (arith, e))
-no-dash One vs e = (refl, omega (arith, e))
-no-dash U vs e = absurd (omega (arith, e))
+no-dash v vs e = by v (sum_by-cons (λ x. cond (is_dash x) 1 0) v vs)
+  where
+    by : (w : Three) → dash_count (v ∷ vs) ≡ cond (is_dash w) 1 0 + dash_count vs → (is_dash w ≡ false) × (dash_count vs ≡ 0)
+    by Zero h = (refl, omega (arith, e, h))
+    by One h = (refl, omega (arith, e, h))
+    by U h = absurd (omega (arith, e, h))
 
 module _ (nets : List NetKind) (formed : WellFormed nets) (hold : Option Hold) (t : Told) (inside : t.target.0 < length nets) (all : length t.values ≡ length (entries nets t.last)) (β : Values) (fills : Fills nets t β) where
   abbrev cells : List Three

@@ -1,5 +1,5 @@
 -- The target's value stands in the cells that are worked out.
-use Rattle.std.proofs.Common.{◌≡◌, ℕ, ◌+◌, ◌*◌, ◌<◌, false, List, length, get_or, Option, sym, ap, ◌∙◌, subst, arith}
+use Rattle.std.proofs.Common.{◌≡◌, ◌+◌, ◌*◌, ◌<◌, false, List, length, get_or, Option, sym, ◌∙◌, subst, arith}
 use Rattle.std.proofs.lemmas.List.{get_or_read}
 use Rattle.circuit.specs.declared.nets.NetKind.{NetKind}
 use Rattle.circuit.specs.Runs.{WellFormed}
@@ -18,10 +18,9 @@ module _ {K : Type 0} (A : Algebra K) (nets : List NetKind) (formed : WellFormed
   pub target-in : g.last.0 * length nets + g.target.0 < length D
   target-in = omega (arith, place-below g.last.0 g.target.0 (g.last.0 + 1) (length nets) (omega arith) ready.target, ready.whole, works.len)
 
-  pub target-is : (w : ℕ) (x : K) → w ≡ length nets → x ≡ get_or D (g.last.0 * w + g.target.0) x → x ≡ worked A nets hold (grid A (length nets) C) g.last.0 g.target.0
-  target-is w x is read =
-      let at : x ≡ get_or D (g.last.0 * length nets + g.target.0) x = read ∙ ap (λ m. get_or D (g.last.0 * m + g.target.0) x) is in
+  pub target-is : (x : K) → x ≡ get_or D (g.last.0 * length nets + g.target.0) x → x ≡ worked A nets hold (grid A (length nets) C) g.last.0 g.target.0
+  target-is x read =
       let count = whole-frames (length nets) g.last.0 (length D) (omega (arith, ready.target)) (ready.whole ∙ sym works.len) in
       let follows = subst (λ f. FollowsRules A nets hold (grid A (length nets) C) f (grid A (length nets) D)) count works.follows in
-      get_or_read D (g.last.0 * length nets + g.target.0) x target-in at (A.only false)
+      get_or_read D (g.last.0 * length nets + g.target.0) x target-in read (A.only false)
       ∙ worked-is A nets formed hold (grid A (length nets) C) (g.last.0 + 1) (grid A (length nets) D) follows g.last.0 g.target.0 (omega arith) ready.target

@@ -1,5 +1,5 @@
 -- What a replay answers.
-use Rattle.std.specs.Prelude.{ℕ, ◌+◌, Bool, true, false, cond, List, [], ◌∷◌, map, length, Some, None, Ok, Err, Option, Result, ◌==◌, nat_lt}
+use Rattle.std.specs.Prelude.{ℕ, ◌+◌, Bool, true, false, cond, List, map, length, Some, None, Ok, Err, Option, Result, ◌==◌, nat_lt}
 use Rattle.circuit.specs.declared.fault.ReadFault.{ReadFault}
 use Rattle.circuit.specs.declared.nets.NetKind.{NetKind}
 use Rattle.circuit.specs.declared.nets.Net.{Net}
@@ -18,20 +18,12 @@ use Rattle.trace.specs.Laid.{held_laid, blank}
 use Rattle.trace.specs.Layout.{frame_at}
 use Rattle.trace.specs.Readings.{trace_read}
 use Rattle.trace.specs.Texts.{Told}
+use Rattle.trace.specs.Traces.{dash_count}
 use Rattle.replay.specs.declared.fault.ReplayFault.{ReplayFault}
 use Rattle.replay.specs.declared.fault.ReplayFault.TheVariants.{Circuit, NoNet, Trace}
 use Rattle.replay.specs.declared.report.Answer.{Answer}
 use Rattle.replay.specs.declared.report.Answer.TheVariants.{On, Off, Unsure}
 use Rattle.replay.specs.declared.report.Report.{Report}
-
-abbrev pub is_dash : Three → Bool
-is_dash Zero = false
-is_dash One = false
-is_dash U = true
-
-abbrev pub dash_count : List Three → ℕ
-dash_count [] = 0
-dash_count (v ∷ vs) = cond (is_dash v) 1 0 + dash_count vs
 
 abbrev pub bit_answer : Bool → Answer
 bit_answer true = On

@@ -12,7 +12,7 @@ use Rattle.trace.specs.Texts.{Told}
 use Rattle.replay.specs.declared.report.Answer.{Answer}
 use Rattle.replay.specs.declared.report.Answer.TheVariants.{On, Off, Unsure}
 use Rattle.replay.specs.declared.report.Report.{Report}
-use Rattle.replay.specs.Answers.{dash_count}
+use Rattle.trace.specs.Traces.{dash_count}
 
 -- However the dashes are filled in, by bits β, the circuit that is given these bits, with the hold in every frame, has
 -- this bit at the target in the last frame.

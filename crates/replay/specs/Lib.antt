@@ -2,3 +2,4 @@ pub mod Faults
 pub mod Answers
 pub mod Law
 pub mod Replayers
+pub mod Words

@@ -1,9 +1,11 @@
 // Why a replay is refused.
-ghost use Rattle.std.specs.Prelude.{◌≡◌};
+ghost use Rattle.std.specs.Prelude.{◌≡◌, ◌<◌, length};
 ghost use Rattle.replay.specs.Faults.{fault_number, fault_line};
 ghost use Rattle.replay.specs.declared.fault.ReplayFault.TheVariants.{Circuit, Trace};
 
 use circuit::fault::ReadFault;
+use std::error::Error;
+use std::fmt;
 use trace::fault::TraceFault;
 
 // The circuit text is refused, the circuit lacks the net of the hold, or the trace text is refused.
@@ -31,7 +33,7 @@ impl From<TraceFault> for ReplayFault {
 }
 
 impl ReplayFault {
-    // The number under which the refusal is known.
+    // The number under which the refusal is known; docs/REFUSALS.md lists it.
     pub fn number(self) -> u8
         ensures { result ≡ fault_number self }
     {
@@ -42,7 +44,7 @@ impl ReplayFault {
         }
     }
 
-    // The line at fault, in the text at fault; 0 where it is no line's fault.
+    // The line at fault, in the text at fault; 0, and not none, where it is no line's fault, since the line is printed.
     pub fn line(self) -> usize
         ensures { result ≡ fault_line self }
     {
@@ -52,4 +54,25 @@ impl ReplayFault {
             ReplayFault::Trace(fault) => fault.line(),
         }
     }
+
+    // What is wrong, and what to do about it.
+    pub fn sentence(self) -> &'static str
+        ensures { 0 < length result.now }
+    {
+        match self {
+            ReplayFault::Circuit(fault) => fault.sentence(),
+            ReplayFault::NoNet => {
+                "the circuit has no net of the name that is to be held: hold another net"
+            }
+            ReplayFault::Trace(fault) => fault.sentence(),
+        }
+    }
 }
+
+impl fmt::Display for ReplayFault {
+    fn fmt<W: fmt::Write>(&self, f: &mut fmt::Formatter<W>) -> fmt::Result {
+        f.write_str(self.sentence())
+    }
+}
+
+impl Error for ReplayFault {}

@@ -7,4 +7,3 @@ pub mod record;
 pub mod replayer;
 mod replays;
 pub mod report;
-mod working;

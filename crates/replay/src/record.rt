@@ -46,8 +46,7 @@ impl HoldRecord {
         ensures hold { result.holds.now.hold ≡ Some hold }
         ensures earlier { result.earlier ≡ self.old.hold }
     {
-        let earlier = self.hold;
-        self.hold = Some(hold);
+        let earlier = self.hold.replace(hold);
         Held {
             holds: self,
             earlier,

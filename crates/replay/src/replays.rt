@@ -8,29 +8,22 @@ ghost use Rattle.replay.specs.Replayers.{Idle};
 ghost use Rattle.replay.specs.Answers.{hold_inside, report_of, replayed, named_hold};
 
 use crate::fault::ReplayFault;
-use crate::playing::{answer_all, lay};
+use crate::playing::{answer, lay};
 use crate::record::HoldRecord;
 use crate::replayer::Replayer;
 use crate::report::Report;
-use crate::working::count_dashes;
 use circuit::circuit::Circuit;
 use circuit::names::Names;
 use frames::Hold;
 use std::alloc::{AllocError, Global};
-use trace::goal::Goal;
+use store::Store;
 use trace::recording::Recording;
-
-// 256 nets in each of 64 frames.
-const MOST_CELLS: usize = 16384;
 
 // Whether a circuit of so many nets has the net of the hold.
 fn hold_inside(hold: Option<Hold>, nets: usize) -> bool
     ensures { result ≡ hold_inside hold nets }
 {
-    match hold {
-        Some(h) => (h.net.0 as usize) < nets,
-        None => true,
-    }
+    hold.is_none_or(|h| usize::from(h.net) < nets)
 }
 
 impl Replayer {
@@ -40,8 +33,8 @@ impl Replayer {
     {
         let circuit = Circuit::new(heap)?;
         let recording = Recording::new(heap, circuit)?;
-        let threes = Vec::with_capacity(heap, MOST_CELLS)?;
-        let bits = Vec::with_capacity(heap, MOST_CELLS)?;
+        let threes = Store::new(heap)?;
+        let bits = Store::new(heap)?;
         Ok(Replayer {
             recording,
             threes,
@@ -54,19 +47,15 @@ impl Replayer {
         requires { is_some (held_trace self.old.recording) ≡ true }
         ensures { (t : Told) → held_trace self.old.recording ≡ Some t → result ≡ report_of (nets_of self.old.recording.circuit) hold t }
     {
-        let Some(trace) = self.recording.trace() else {
-            unreachable();
-        };
+        let trace = self.recording.trace().unwrap();
         let circuit = self.recording.circuit();
-        let goal = Goal {
-            last: trace.last,
-            target: trace.target,
-        };
-        let frames = trace.last.0 + 1;
+        let goal = trace.goal;
+        let dashes = trace.dashes();
         let nets = circuit.len();
-        let dashes = count_dashes(trace.values);
-        lay(&self.recording, &mut self.threes, frames as usize * nets);
-        let answer = answer_all(
+        let frames = goal.last.0 + 1;
+        let places = (usize::from(goal.last) + 1) * nets;
+        lay(&self.recording, &mut self.threes, places);
+        let answer = answer(
             circuit,
             hold,
             dashes,
@@ -82,6 +71,7 @@ impl Replayer {
         }
     }
 
+    // The two texts are arguments of their own, as in the public calls below, at which the two clauses stand again for their readers.
     fn play(
         &mut self,
         circuit: &[u8],
@@ -126,8 +116,7 @@ impl Replayer {
         ensures holds { holds.new.hold ≡ holds.old.hold }
     {
         let held = holds.set(hold);
-        let report = self.play(circuit, trace, held.hold())?;
-        Ok(report)
+        self.play(circuit, trace, held.hold())
     }
 
     // A hold of the net that has this name in a circuit text.
@@ -140,9 +129,8 @@ impl Replayer {
         ensures { result ≡ named_hold circuit.now name.now bit }
     {
         self.recording.read_circuit(circuit)?;
-        match Names::new(self.recording.circuit(), circuit).net(name) {
-            Some(net) => Ok(Hold { net, bit }),
-            None => Err(ReplayFault::NoNet),
-        }
+        let names = Names::new(self.recording.circuit(), circuit);
+        let net = names.net(name).ok_or(ReplayFault::NoNet)?;
+        Ok(Hold { net, bit })
     }
 }

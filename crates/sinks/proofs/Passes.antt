@@ -1,7 +1,8 @@
 -- What the passes that measure and write come to.
-use Rattle.std.proofs.Common.{◌≡◌, ℕ, ◌+◌, ◌-◌, ◌<◌, ◌≤◌, true, false, leb, List, [], ◌∷◌, ◌++◌, length, take, drop, Some, None, sym, ap, ◌∙◌, ap₂, ⊎_elim, append-nil, arith, take-append-drop}
+use Rattle.std.proofs.Common.{◌≡◌, ℕ, ◌+◌, ◌-◌, ◌<◌, ◌≤◌, true, false, leb, List, [], ◌∷◌, ◌++◌, length, take, drop, Some, None, Ok, Err, Result, sym, refl, ap, ◌∙◌, ap₂, ⊎_elim, append-nil, arith, take-append-drop}
 use Rattle.std.proofs.lemmas.Bool.{cond-true, cond-false, le-leb, lt-leb, cases_Bool, cases_lt}
-use Rattle.sinks.specs.Sinks.{fits, pastes, filled}
+use Rattle.std.specs.Result.{IsOk}
+use Rattle.sinks.specs.Sinks.{Puts, fits, pastes, writes, filled}
 
 -- the pass that measures
 unless : {A : Type 0} (x : A) → Some x ≡ None → ⊥
@@ -52,3 +53,8 @@ pastes-ok out now t p h f =
     sym (same ∙ ap (λ n. take p now ++ drop n now) zeros ∙ take-append-drop p now))
     (λ (e : leb (p + 0) (length now) ≡ false). absurd (unless _ (is ∙ cond-false _ _ _ e)))
     (cases_Bool (leb (p + 0) (length now)))
+
+-- a text that there is room for is written
+pub written : {U E : Type 0} (out now t : List ℕ) (p h k : ℕ) (r : Result U E) → length t ≤ length out → Puts (writes 0 out h) (writes p now k) t r → IsOk r × (now ≡ filled t out)
+written out now t p h k (Ok u) room put = (refl, pastes-ok out now t p room put.takes)
+written out now t p h k (Err e) room put = absurd (pastes-err out t room put.takes)

@@ -1,30 +1,11 @@
 -- What one part does to each kind of sink, and how parts follow one another.
-use Rattle.std.proofs.Common.{◌≡◌, ℕ, ◌+◌, ◌-◌, ◌<◌, ◌≤◌, true, cond, eqb, leb, List, [], ◌∷◌, ◌++◌, length, get_or, take, drop, is_err, Some, None, Ok, Err, Result, sym, refl, ap, ◌∙◌, inl, inr, append_assoc, arith, length-append, length-drop, length-take, Bor}
+use Rattle.std.proofs.Common.{◌≡◌, ℕ, ◌+◌, ◌-◌, ◌≤◌, true, cond, eqb, leb, List, [], ◌∷◌, ◌++◌, length, take, drop, is_err, Some, None, Ok, Err, Result, sym, refl, ap, ◌∙◌, inl, inr, append_assoc, arith, length-append, length-drop, length-take}
 use borrow.Rule.Slice.PartMut.{put_mid}
-use Rattle.std.proofs.lemmas.Bool.{false≢true, cond-true, cond-false, le-leb, lt-leb, leb-true, eq-eqb, eqb-true, cases_Bool}
-use Rattle.std.proofs.lemmas.Bool.Decides.{same_from_decides}
-use Rattle.std.proofs.lemmas.List.{at_drop_more}
+use Rattle.std.proofs.lemmas.Bool.{false≢true, cond-true, cond-false, eq-eqb, eqb-true, cases_Bool}
 use Rattle.std.proofs.lemmas.Slice.{take-put_mid, drop-put_mid}
-use Rattle.sinks.specs.Sinks.{Meaning, Puts, concat, texts, fits, pastes, strip}
-
-leb-same : (a b m n : ℕ) → (a ≤ b → m ≤ n) → (m ≤ n → a ≤ b) → leb a b ≡ leb m n
-leb-same a b m n f g = same_from_decides {P = a ≤ b} (leb a b) (leb m n) (leb-true a b, le-leb a b) (λ e. g (leb-true m n e), λ h. le-leb m n (f h))
-
--- room
-pub fits-less : (n : ℕ) (a more : List ℕ) → length a ≤ n → fits n (a ++ more) ≡ fits (n - length a) more
-fits-less n a more h =
-    let l = length-append a more in
-    let left : n - length (a ++ more) ≡ n - length a - length more = omega (arith, l) in
-    ap (λ b. cond b (Some ((n - length (a ++ more)) ∷ [])) None) (leb-same (length (a ++ more)) n (length more) (n - length a) (λ k. omega (arith, l)) (λ k. omega (arith, l)))
-    ∙ ap (λ x. cond (leb (length more) (n - length a)) (Some (x ∷ [])) None) left
-
-pub fits-not : (n : ℕ) (a more : List ℕ) → n < length a → fits n (a ++ more) ≡ None
-fits-not n a more h = cond-false _ _ _ (lt-leb (length (a ++ more)) n (omega (arith, length-append a more)))
+use Rattle.sinks.specs.Sinks.{Meaning, Puts, pastes, strip}
 
 -- a page
-pub pastes-not : (p : ℕ) (out a more : List ℕ) → length out < p + length a → pastes p out (a ++ more) ≡ None
-pastes-not p out a more h = cond-false _ _ _ (lt-leb (p + length (a ++ more)) (length out) (omega (arith, length-append a more)))
-
 module _ (p : ℕ) (out a more : List ℕ) (h : p + length a ≤ length out) where
   abbrev filled : List ℕ
   filled = put_mid p (length a) out a
@@ -51,9 +32,12 @@ module _ (p : ℕ) (out a more : List ℕ) (h : p + length a ≤ length out) whe
       ∙ ap (λ n. cond (leb end n) (Some (take p out ++ ((a ++ more) ++ drop end out))) None) (sym as-long)
       ∙ ap (λ xs. cond (leb end (length filled)) (Some xs) None) same-out
 
-pub pastes-more : (p k : ℕ) (out a ys more : List ℕ) → p + length a ≤ length out → ys ≡ a → k ≡ length a → pastes p out (a ++ more) ≡ pastes (p + length a) (put_mid p k out ys) more
-pastes-more p k out a ys more h e l =
-    pastes-on p out a more h ∙ ap (λ n. pastes (p + length a) (put_mid p n out a) more) (sym l) ∙ ap (λ xs. pastes (p + length a) (put_mid p k out xs) more) (sym e)
+-- to the end that a page came to, by the bytes that it then had
+pub pastes-more : (p end : ℕ) (out a ys more : List ℕ) → end ≡ p + length a → end ≤ length out → ys ≡ a → pastes p out (a ++ more) ≡ pastes end (put_mid p (end - p) out ys) more
+pastes-more p end out a ys more e h same =
+    let k : length a ≡ end - p = omega arith in
+    pastes-on p out a more (omega arith)
+    ∙ ap (λ n. pastes n (put_mid p (length a) out a) more) (sym e) ∙ ap (λ n. pastes end (put_mid p n out a) more) k ∙ ap (λ xs. pastes end (put_mid p (end - p) out xs) more) (sym same)
 
 -- a text
 pub strip-front : (p x more : List ℕ) → strip (p ++ x) (p ++ more) ≡ strip x more
@@ -69,28 +53,34 @@ strip-not (t ∷ s) (b ∷ p) more h =
       | inr e ↦ cond-false _ _ _ e
     ])
 
--- one part after another: the sink meant m at first, and means n when all but the parts from i on are put
-abbrev pub Come : Meaning → Meaning → List ℕ → List ℕ → Type 0
-Come m n all rest = (more : List ℕ) → m (all ++ more) ≡ n (rest ++ more)
+-- what the exit of a `?` returns where a part is refused
+pub refused : {U E : Type 0} (m n : Meaning) (bs : List ℕ) (r : Result U E) → is_err r ≡ true → n.home ≡ m.home → ((more : List ℕ) → m.comes (bs ++ more) ≡ None) → Puts m n bs r
+refused m n bs (Ok u) q h f = absurd (false≢true q)
+refused m n bs (Err e) q h f = record { takes = f; home = h }
 
-pub come-on : (m n o : Meaning) (all part rest : List ℕ) → Come m n all (part ++ rest) → ((more : List ℕ) → n (part ++ more) ≡ o more) → Come m o all rest
-come-on m n o all part rest f g = λ more. f more ∙ ap n (append_assoc part rest more) ∙ g (rest ++ more)
+-- one part after another: the sink meant m at first, and means n when all but these last bytes of all are put
+pub record Come (m n : Meaning) (all rest : List ℕ) : Type 0 where
+  pub goes : (more : List ℕ) → m.comes (all ++ more) ≡ n.comes (rest ++ more)
+  pub home : n.home ≡ m.home
 
-pub come-out : (m n : Meaning) (all part rest : List ℕ) → Come m n all (part ++ rest) → ((more : List ℕ) → n (part ++ more) ≡ None) → (more : List ℕ) → m (all ++ more) ≡ None
-come-out m n all part rest f g = λ more. f more ∙ ap n (append_assoc part rest more) ∙ g (rest ++ more)
+-- nothing is left to put
+pub come-all : {U E : Type 0} (m n : Meaning) (all rest : List ℕ) (u : U) → rest ≡ [] → Come m n all rest → Puts {E = E} m n all (Ok u)
+come-all m n all rest u e f = record { takes = λ more. f.goes more ∙ ap (λ xs. n.comes (xs ++ more)) e; home = f.home }
 
--- what the exit of a `?` returns
-pub puts-err : {U E : Type 0} (m n : Meaning) (bs : List ℕ) (r : Result U E) → is_err r ≡ true → ((more : List ℕ) → m (bs ++ more) ≡ None) → Puts m n bs r
-puts-err m n bs (Ok u) q f = absurd (false≢true q)
-puts-err m n bs (Err e) q f = f
+-- the part in front is put
+pub come-on : {U E : Type 0} (m n o : Meaning) (all part rest next : List ℕ) (u : U) → rest ≡ part ++ next → Come m n all rest → Puts {E = E} n o part (Ok u) → Come m o all next
+come-on m n o all part rest next u front f g =
+    record { goes = λ more. f.goes more ∙ ap (λ xs. n.comes (xs ++ more)) front ∙ ap n.comes (append_assoc part next more) ∙ g.takes (next ++ more); home = g.home ∙ f.home }
 
--- the part at i is the front of what is left
-pub part-front : (ps : List (Bor (List ℕ))) (i : ℕ) (d : Bor (List ℕ)) → i < length ps → concat (texts (drop i ps)) ≡ (get_or ps i d).now ++ concat (texts (drop (i + 1) ps))
-part-front ps i d h = at_drop_more (λ xs. concat (texts xs)) ps i d h
+-- the part in front is refused
+pub come-out : {U E V F : Type 0} (m n o : Meaning) (all part rest next : List ℕ) (e : E) (r : Result V F) → is_err r ≡ true → rest ≡ part ++ next → Come m n all rest → Puts {U = U} n o part (Err e) → Puts m o all r
+come-out m n o all part rest next e r q front f g =
+    refused m o all r q (g.home ∙ f.home) (λ more. f.goes more ∙ ap (λ xs. n.comes (xs ++ more)) front ∙ ap n.comes (append_assoc part next more) ∙ g.takes (next ++ more))
 
-pub puts-then : {U E : Type 0} (l m n : Meaning) (a b : List ℕ) (r : Result U E) → ((more : List ℕ) → l (a ++ more) ≡ m more) → Puts m n b r → Puts l n (a ++ b) r
-puts-then l m n a b (Ok u) f g = λ more. ap l (append_assoc a b more) ∙ f (b ++ more) ∙ g more
-puts-then l m n a b (Err e) f g = λ more. ap l (append_assoc a b more) ∙ f (b ++ more) ∙ g more
+-- two parts, the first of which is put, and the first of which is refused
+pub puts-then : {U E V F : Type 0} (l m n : Meaning) (a b : List ℕ) (v : V) (r : Result U E) → Puts {E = F} l m a (Ok v) → Puts m n b r → Puts l n (a ++ b) r
+puts-then l m n a b v (Ok u) f g = record { takes = λ more. ap l.comes (append_assoc a b more) ∙ f.takes (b ++ more) ∙ g.takes more; home = g.home ∙ f.home }
+puts-then l m n a b v (Err e) f g = record { takes = λ more. ap l.comes (append_assoc a b more) ∙ f.takes (b ++ more) ∙ g.takes more; home = g.home ∙ f.home }
 
-pub puts-out : {U E : Type 0} (l n : Meaning) (a b : List ℕ) (r : Result U E) → is_err r ≡ true → ((more : List ℕ) → l (a ++ more) ≡ None) → Puts l n (a ++ b) r
-puts-out l n a b r q f = puts-err l n (a ++ b) r q (λ more. ap l (append_assoc a b more) ∙ f (b ++ more))
+pub puts-out : {U E V F : Type 0} (l n : Meaning) (a b : List ℕ) (e : E) (r : Result V F) → is_err r ≡ true → Puts {U = U} l n a (Err e) → Puts l n (a ++ b) r
+puts-out l n a b e r q f = refused l n (a ++ b) r q f.home (λ more. ap l.comes (append_assoc a b more) ∙ f.takes (b ++ more))

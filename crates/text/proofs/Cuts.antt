@@ -1,31 +1,29 @@
 -- How `stop` and `cut` go on.
-use Rattle.std.proofs.Common.{◌≡◌, ℕ, suc, ◌+◌, ◌<◌, ◌≤◌, true, false, cond, List, [], ◌∷◌, length, get_or, take, drop, refl, ap, ◌∙◌, inl, inr, arith}
-use Rattle.std.proofs.lemmas.List.{at_drop_more}
-use Rattle.std.proofs.lemmas.Bool.{cases_Bool, eq-eqb}
+use Rattle.std.proofs.Common.{sym, one-add, ◌≡◌, ◌∙◌, ℕ, suc, ◌<◌, ◌≤◌, true, false, cond, List, [], ◌∷◌, length, take, drop, Some, None, Option, MatchOption, refl, ap, arith}
+use Rattle.std.specs.List.{position}
+use Rattle.std.specs.Option.{unwrap_or}
+use Rattle.std.proofs.lemmas.Grind.{common_steps}
+use Rattle.std.proofs.lemmas.List.Recursion.{is_position_or_len}
+use Rattle.std.proofs.lemmas.List.Quantifiers.{position-Some}
 use Rattle.text.specs.declared.class.Class.{Class}
-use Rattle.text.specs.Class.{class_of, same, number}
+use Rattle.text.specs.Class.{class_of, same}
 use Rattle.text.specs.Cut.{stop, Parts, more, widen, cut}
-use Rattle.text.proofs.Classes.{same-eq}
-
-pub eq-same : (a b : Class) → a ≡ b → same a b ≡ true
-eq-same a b e = eq-eqb (number a) (number b) (ap number e)
-
-pub ne-same : (a b : Class) → (a ≡ b → ⊥) → same a b ≡ false
-ne-same a b n = elim (cases_Bool (same a b)) [ inl e ↦ absurd (n (same-eq a b e)) | inr e ↦ e ]
-
--- one byte on, where it is not of the class, and where it is
-pub stop-more : (k : Class) (xs : List ℕ) (i : ℕ) → i < length xs → (class_of (get_or xs i 0) ≡ k → ⊥) → stop k (drop i xs) ≡ suc (stop k (drop (i + 1) xs))
-stop-more k xs i h n =
-    at_drop_more (stop k) xs i 0 h ∙ ap (λ t. cond t 0 (suc (stop k (drop (i + 1) xs)))) (ne-same _ k n)
-
-pub stop-here : (k : Class) (xs : List ℕ) (i : ℕ) → i < length xs → class_of (get_or xs i 0) ≡ k → stop k (drop i xs) ≡ 0
-stop-here k xs i h e =
-    at_drop_more (stop k) xs i 0 h ∙ ap (λ t. cond t 0 (suc (stop k (drop (i + 1) xs)))) (eq-same _ k e)
 
 pub stop-within : (k : Class) (xs : List ℕ) → stop k xs ≤ length xs
 stop-within k [] = omega arith
 stop-within k (b ∷ bs) =
     elim (same (class_of b) k) as (λ t. cond t 0 (suc (stop k bs)) ≤ suc (length bs)) [ true ↦ omega arith | false ↦ omega (arith, stop-within k bs) ]
+
+-- the place of the first byte of the class, or the length
+pub stop_is : (k : Class) (xs : List ℕ) → unwrap_or (position (λ b. same (class_of b) k) xs) (length xs) ≡ stop k xs
+stop_is k xs =
+    let e = is_position_or_len (stop k) (λ b. same (class_of b) k) refl (λ b bs. ap (λ n. cond (same (class_of b) k) 0 n) (sym (one-add (stop k bs)))) xs in
+    grind (arith, common_steps, e, stop-within k xs)
+
+-- where the first byte of the class stands, if there is one
+pub first_at : (k : Class) (xs : List ℕ) (o : Option ℕ) → o ≡ position (λ b. same (class_of b) k) xs → MatchOption o (stop k xs ≡ length xs) (λ n. (n ≡ stop k xs) × (n < length xs))
+first_at k xs None e = sym (ap (λ o. unwrap_or o (length xs)) e ∙ stop_is k xs)
+first_at k xs (Some n) e = (ap (λ o. unwrap_or o (length xs)) e ∙ stop_is k xs, (position-Some (λ b. same (class_of b) k) xs n 0 (sym e)).0)
 
 -- the first part, where a byte closes it
 pub cut-more : (k : Class) (xs : List ℕ) → stop k xs < length xs → cut k xs ≡ more (take (stop k xs) xs) (cut k (drop (suc (stop k xs)) xs))

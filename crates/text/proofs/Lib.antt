@@ -1,5 +1,4 @@
 pub mod Classes
 pub mod Cuts
 pub mod Joins
-pub mod Naming
 pub mod Yielding

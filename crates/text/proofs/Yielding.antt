@@ -5,7 +5,7 @@ use Rattle.text.specs.declared.class.Class.{Class}
 use Rattle.text.specs.declared.part.Part.{Part}
 use Rattle.text.specs.declared.reader.Reader.{Reader}
 use Rattle.text.specs.Cut.{stop, more, cut}
-use Rattle.text.specs.Parts.{bytes_of, Stands}
+use Rattle.text.specs.Parts.{bytes_of}
 use Rattle.text.specs.Readers.{lines_closed, left, Yields, Ends}
 use Rattle.text.proofs.Cuts.{cut-more, cut-end}
 
@@ -24,16 +24,6 @@ module _ (xs : List ℕ) (p e : ℕ) (forward : p ≤ e) (within : e ≤ length 
   front : (m : ℕ) → p + m ≤ e → take m (take (e - p) (drop p xs)) ≡ take m (drop p xs)
   front m h = take-take m (e - p) (drop p xs) (omega arith)
 
--- what is left stands where the reader stands
-pub stands : (s : Reader) (p : Part) → bytes_of p ≡ left s → p.line ≡ s.line → p.place ≡ s.place → Stands s.text.now p
-stands s p bytes line place =
-    let count : length (bytes_of p) ≡ s.end - s.place = ap length bytes ∙ between s.text.now s.place s.end s.forward s.within in
-    record {
-      bytes = bytes ∙ (λ i. take (sym count i) (drop (sym place i) s.text.now));
-      within = omega (arith, count, place, s.forward, s.within);
-      counted = omega (arith, line, place, s.counted);
-    }
-
 module _ (k : Class) (s : Reader) (all : List ℕ) (n : ℕ) (is : all ≡ left s) (at : n ≡ stop k all) where
   xs : List ℕ
   xs = s.text.now
@@ -42,12 +32,10 @@ module _ (k : Class) (s : Reader) (all : List ℕ) (n : ℕ) (is : all ≡ left 
   long = ap length is ∙ between s.text.now s.place s.end s.forward s.within
 
   pub yields : n < length all → (t : Reader) (p : Part) → t.text ≡ s.text → t.end ≡ s.end → t.place ≡ s.place + (n + 1) → t.line ≡ s.line + lines_closed k
-      → bytes_of p ≡ take (n - 0) all → p.line ≡ s.line → p.place ≡ s.place → Yields k p s t
-  yields inside t p text end place line bytes p-line p-place =
-      let size : n - 0 ≡ n = omega arith in
+      → bytes_of p ≡ take n all → p.line ≡ s.line → p.place ≡ s.place → Yields k p s t
+  yields inside t p text end place line first p-line p-place =
       let near : s.place + n ≤ s.end = omega (arith, long, s.forward) in
       let room : s.place + suc n ≤ s.end = omega (arith, long, s.forward) in
-      let first : bytes_of p ≡ take n all = bytes ∙ ap (λ m. take m all) size in
       let count : length (bytes_of p) ≡ n = ap length first ∙ length-take-le n all (omega arith) in
       let here : bytes_of p ≡ take n (drop s.place s.text.now) =
       first ∙ ap (take n) is ∙ front s.text.now s.place s.end s.forward s.within n near in
@@ -74,8 +62,3 @@ module _ (k : Class) (s : Reader) (all : List ℕ) (n : ℕ) (is : all ≡ left 
 
   pub ends : n ≡ length all → Ends k s s
   ends e = record { parts = ap (cut k) (sym is) ∙ cut-end k all (omega (arith, at)) ∙ ap (λ (ys : List ℕ). record { closed = []; tail = ys }) is; same = refl }
-
--- each part that is read leaves less
-pub falls : (k : Class) (p : Part) (s t : Reader) → Yields k p s t → length (left t) < length (left s)
-falls k p s t y =
-    omega (arith, between t.text.now t.place t.end t.forward t.within, between s.text.now s.place s.end s.forward s.within, y.on_place, y.on_end, t.forward, s.forward)

@@ -1,5 +1,6 @@
 // A reader yields the parts that bytes of one class close, each a part of the text with its line and place.
-ghost use Rattle.std.specs.Prelude.{◌≡◌, ◌≤◌, min, length, MatchOption};
+ghost use Rattle.std.specs.Prelude.{◌≡◌, ◌≤◌, length, position, MatchOption};
+ghost use Rattle.text.specs.Class.{class_of, same};
 ghost use Rattle.text.specs.Cut.{stop};
 ghost use Rattle.text.specs.Parts.{Stands};
 ghost use Rattle.text.specs.Readers.{lines_closed, left, Starts, Inside, Yields, Ends};
@@ -8,17 +9,26 @@ use crate::class::{Class, class_of};
 use crate::part::Part;
 use crate::reader::Reader;
 
+// Whether a byte is of the class.
+fn is_of(b: u8, class: Class) -> bool
+    ensures { result ≡ same (class_of b) class }
+{
+    class_of(b) == class
+}
+
+// The place of the first byte of the class, if there is one.
+pub fn first_of(text: &[u8], class: Class) -> Option<usize>
+    ensures { result ≡ position (λ b. same (class_of b) class) text.now }
+{
+    text.iter().position(|b| is_of(*b, class))
+}
+
 // How many bytes stand before the first of the class.
 pub fn bytes_before(text: &[u8], class: Class) -> usize
     ensures is { result ≡ stop class text.now }
     ensures within { result ≤ length text.now }
 {
-    for (i, b) in text.iter().enumerate() {
-        if class_of(*b) == class {
-            return i;
-        }
-    }
-    text.len()
+    first_of(text, class).unwrap_or(text.len())
 }
 
 // How many lines a byte of the class closes.
@@ -26,16 +36,7 @@ fn lines_closed(class: Class) -> usize
     ensures is { result ≡ lines_closed class }
     ensures few { result ≤ 1 }
 {
-    match class {
-        Class::Feed => 1,
-        _ => 0,
-    }
-}
-
-fn at_most(n: usize, limit: usize) -> usize
-    ensures { result ≡ min n limit }
-{
-    if n < limit { n } else { limit }
+    usize::from(class == Class::Feed)
 }
 
 impl<'a> Reader<'a> {
@@ -55,13 +56,13 @@ impl<'a> Reader<'a> {
     pub fn inside(&self, part: Part<'a>) -> Reader<'a>
         ensures { Inside self.now part.entry result }
     {
-        let place = at_most(part.place, self.text.len());
-        let len = at_most(part.bytes.len(), self.text.len() - place);
+        let place = part.place.min(self.text.len());
+        let len = part.bytes.len().min(self.text.len() - place);
         Reader {
             text: self.text,
             place,
             end: place + len,
-            line: at_most(part.line, place + 1),
+            line: part.line.min(place + 1),
         }
     }
 
@@ -91,14 +92,11 @@ impl<'a> Reader<'a> {
         ensures { MatchOption result (Ends class self.old self.new) (λ p. Yields class p self.old self.new) }
     {
         let rest = self.left();
-        let n = bytes_before(rest.bytes, class);
-        if n == rest.bytes.len() {
-            return None;
-        }
+        let n = first_of(rest.bytes, class)?;
         self.place += n + 1;
         self.line += lines_closed(class);
         Some(Part {
-            bytes: &rest.bytes[0..n],
+            bytes: &rest.bytes[..n],
             line: rest.line,
             place: rest.place,
         })

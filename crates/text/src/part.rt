@@ -5,7 +5,7 @@ ghost use Rattle.text.specs.Parts.{span_of};
 use crate::span::Span;
 
 // Some bytes of a text, the number of the line that they begin on, counted from 1, and their place in the text.
-#[derive(Clone, Copy)]
+#[derive(Clone, Copy, PartialEq, Eq, Debug)]
 pub struct Part<'a> {
     pub bytes: &'a [u8],
     pub line: usize,

@@ -1,7 +1,8 @@
 // A reader over a lent text, or over a part of it.
 ghost use Rattle.std.specs.Prelude.{◌+◌, ◌≤◌, length};
 
-// It has still to read the bytes of `text` from `place` up to `end`, which begin on line `line`.
+// It has still to read the bytes of `text` from `place` up to `end`, which begin on line `line`. A slice of what is left
+// would forget the places in the whole text that parts name.
 #[derive(Drop)]
 pub struct Reader<'a> {
     pub(crate) text: &'a [u8],

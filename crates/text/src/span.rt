@@ -3,7 +3,7 @@ ghost use Rattle.std.specs.Prelude.{◌≡◌};
 ghost use Rattle.text.specs.Spans.{spanned};
 
 // `len` bytes from `place` on.
-#[derive(Clone, Copy)]
+#[derive(Clone, Copy, PartialEq, Eq, Hash, Debug)]
 pub struct Span {
     pub place: usize,
     pub len: usize,
@@ -14,15 +14,7 @@ impl Span {
     pub fn of(self, text: &[u8]) -> &[u8]
         ensures { result.now ≡ spanned text.now self }
     {
-        let place = self.place;
-        if place > text.len() {
-            return b"";
-        }
-        let rest = &text[place..];
-        let len = self.len;
-        if len > rest.len() {
-            return rest;
-        }
-        &rest[0..len]
+        let rest = text.get(self.place..).unwrap_or(b"");
+        rest.get(..self.len).unwrap_or(rest)
     }
 }

@@ -17,8 +17,9 @@ use Rattle.values.specs.declared.three.Three.{Three}
 use Rattle.values.specs.declared.three.Three.TheVariants.{Zero, One, U}
 use Rattle.trace.specs.Layout.{entries}
 use Rattle.sinks.specs.Sinks.{strip}
-use Rattle.trace.specs.Texts.{Told, byte_of, decimal, head, line, lines, first_line, feed, trace_text}
-use Rattle.trace.specs.Readings.{Took, Parted, Begun, and_then, value_of, took, valued, line_at, field_at, number_of, run, target_at, first_at, on_line, ended, read_on, with_values, from_first, trace_read}
+use Rattle.trace.specs.Texts.{Told, decimal, head, line, lines, first_line, feed, trace_text}
+use Rattle.values.specs.Bytes.{byte_of, value_of}
+use Rattle.trace.specs.Readings.{Took, Parted, Begun, and_then, took, valued, line_at, field_at, number_of, run, target_at, first_at, on_line, ended, read_on, with_values, from_first, trace_read}
 use Rattle.trace.specs.Laws.{Fits, Exactly, Back, Stuck, StopsAt}
 use Rattle.trace.specs.declared.fault.WriteFault.{WriteFault}
 use Rattle.trace.specs.declared.fault.WriteFault.TheVariants.{NoNet, Short}

@@ -1,9 +1,10 @@
 -- What keeping a trace comes to.
-use Rattle.std.proofs.Common.{◌≡◌, ℕ, zero, suc, ◌+◌, ◌*◌, ◌<◌, Bool, true, false, ◌&&◌, eqb, ltb, List, [], ◌∷◌, map, length, get_or, None, sym, refl, ap, ◌∙◌, subst, arith}
+use Rattle.std.proofs.Common.{◌≡◌, ℕ, zero, suc, ◌+◌, ◌*◌, ◌<◌, Bool, true, false, ◌&&◌, eqb, ltb, List, [], ◌∷◌, map, length, get_or, None, Ok, Err, Result, is_err, sym, refl, ap, ◌∙◌, subst, arith}
 use lib.ListN.{length-map}
 use Rattle.std.specs.List.{AllByRecursion as All}
-use Rattle.std.proofs.lemmas.Bool.{and_from, and_right, lt-ltb, eq-eqb}
+use Rattle.std.proofs.lemmas.Bool.{false≢true, and_from, and_right, lt-ltb, eq-eqb}
 use Rattle.circuit.specs.declared.nets.NetKind.{NetKind}
+use Rattle.circuit.specs.Circuits.{nets_of}
 use Rattle.circuit.specs.Runs.{WellFormed}
 use Rattle.values.specs.Bits.{bits}
 use Rattle.values.specs.Threes.{threes, three_of}
@@ -14,10 +15,13 @@ use Rattle.frames.specs.Worked.{worked}
 use Rattle.frames.proofs.Opens.{open-stays}
 use Rattle.trace.specs.declared.entry.Entry.{Entry}
 use Rattle.trace.specs.declared.goal.Goal.{Goal}
+use Rattle.trace.specs.declared.goal.NotOn.{NotOn}
 use Rattle.trace.specs.Dashes.{frame_of, given_at, grid_at, on, dashed, solved, lifted, puts_on, kept_trace}
 use Rattle.trace.specs.Dashing.{Ready, OpenEntry, Worked}
 use Rattle.trace.specs.Fillings.{Certain}
-use Rattle.trace.specs.Keeping.{Found}
+use Rattle.trace.specs.Keeping.{Kept, Found}
+use Rattle.trace.specs.Recordings.{held_trace}
+use Rattle.trace.specs.declared.recording.Recording.{Recording}
 use Rattle.trace.specs.Layout.{entries}
 use Rattle.trace.proofs.Certainly.{dashed-on, lifted-on, certain}
 use Rattle.trace.proofs.Entering.{all-open}
@@ -45,12 +49,12 @@ module _ (nets : List NetKind) (formed : WellFormed nets) (g : Goal) (solution :
     pub ready : Ready nets g (length C)
     ready = record { short = short; target = inside; whole = sym (ap length is ∙ length-map solution three_of ∙ size) }
 
-    pub not-kept : Found nets g C D false → puts_on nets g solution ≡ false
-    not-kept found =
+    pub not-kept : (e : NotOn) → Found nets g C D (Err e) → puts_on nets g solution ≡ false
+    not-kept e found =
         let off : worked bits nets None (solved (length nets) solution) g.last.0 g.target.0 ≡ false = sym came ∙ ap (λ xs. on nets g (grid threes (length nets) xs)) (sym is) ∙ found.0 in
         and_right (ltb g.last.0 64 && ltb g.target.0 (length nets)) _ (and_right (eqb (length solution) ((g.last.0 + 1) * length nets)) _ off)
 
-    module _ (found : Found nets g C D true) where
+    module _ (u : Unit {0}) (found : Found nets g C D (Ok u)) where
       comes : on nets g (lifted (length nets) solution) ≡ true
       comes = ap (λ xs. on nets g (grid threes (length nets) xs)) (sym is) ∙ found.0
 
@@ -65,3 +69,9 @@ module _ (nets : List NetKind) (formed : WellFormed nets) (g : Goal) (solution :
 
       pub kept-certain : Certain nets (kept_trace nets g solution)
       kept-certain = certain nets formed g inside _ (dashed-on nets g (entries nets g.last.0) (lifted (length nets) solution) comes)
+
+-- a refusal
+pub kept-out : (r : Result (Unit {0}) NotOn) (solution : List Bool) (g : Goal) (before after : Recording) → is_err r ≡ true
+    → (puts_on (nets_of before.circuit) g solution ≡ false) × (after.circuit ≡ before.circuit) × (held_trace after ≡ held_trace before) → Kept r solution g before after
+kept-out (Ok u) solution g before after out facts = absurd (false≢true out)
+kept-out (Err e) solution g before after out facts = facts

@@ -11,3 +11,4 @@ pub mod Entering
 pub mod Certainly
 pub mod Keptly
 pub mod Spreading
+pub mod Aiming

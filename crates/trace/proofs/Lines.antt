@@ -1,15 +1,23 @@
--- How the lines of the entries go on.
-use Rattle.std.proofs.Common.{◌≡◌, ℕ, ◌+◌, ◌<◌, List, [], ◌∷◌, ◌++◌, length, get_or, drop, refl, ap, ◌∙◌}
-use Rattle.std.proofs.lemmas.List.{at_drop_more}
+-- How what stands at each entry goes on, an entry and a value at a time.
+use Rattle.std.proofs.Common.{◌≡◌, ℕ, List, [], ◌∷◌, ◌++◌, length, refl, ap, inl, inr, ◌⊎◌}
+use Rattle.std.proofs.lemmas.List.{nil_from_length}
 use Rattle.values.specs.declared.three.Three.{Three}
 use Rattle.trace.specs.declared.entry.Entry.{Entry}
 use Rattle.trace.specs.Texts.{line, lines}
 
--- the line at i is the front of what is left
-module _ (ns : List (List ℕ)) (es rest : List Entry) (vs : List Three) (i : ℕ) (d : Three) (h : i < length vs) (e : Entry) (is : es ≡ e ∷ rest) where
-  pub line-front : lines ns es (drop i vs) ≡ line ns e (get_or vs i d) ++ lines ns rest (drop (i + 1) vs)
-  line-front = ap (λ xs. lines ns xs (drop i vs)) is ∙ at_drop_more (lines ns (e ∷ rest)) vs i d h
+-- no entry is left, or no value
+abbrev pub Over : List Entry → List Three → Type 0
+Over es vs = (es ≡ []) ⊎ (vs ≡ [])
 
-pub lines-none : (ns : List (List ℕ)) (es : List Entry) → lines ns es [] ≡ []
-lines-none ns [] = refl
-lines-none ns (e ∷ es) = refl
+-- where a loop over both ends
+pub over : {A B : Type 0} {P : A → Type 0} {Q : B → Type 0} (es : List Entry) (vs : List Three) → ((x : A) × ((es ≡ []) × P x)) ⊎ ((y : B) × ((length vs ≡ 0) × Q y)) → Over es vs
+over es vs (inl h) = inl h.1.0
+over es vs (inr h) = inr (nil_from_length vs h.1.0)
+
+pub line-front : (ns : List (List ℕ)) (es rest : List Entry) (vs more : List Three) (e : Entry) (v : Three) → (es ≡ e ∷ rest) × (vs ≡ v ∷ more) → lines ns es vs ≡ line ns e v ++ lines ns rest more
+line-front ns es rest vs more e v is = λ i. lines ns (is.0 i) (is.1 i)
+
+pub lines-none : (ns : List (List ℕ)) (es : List Entry) (vs : List Three) → Over es vs → lines ns es vs ≡ []
+lines-none ns es vs (inl h) = ap (λ xs. lines ns xs vs) h
+lines-none ns [] vs (inr h) = refl
+lines-none ns (e ∷ es) vs (inr h) = ap (lines ns (e ∷ es)) h

@@ -1,17 +1,26 @@
 -- What reading a trace comes to, by its parts.
-use Rattle.std.proofs.Common.{◌≡◌, ℕ, true, ◌&&◌, eqb, ltb, List, [], length, Some, None, Ok, Err, Result, sym, ap, ◌∙◌, subst, arith}
+use Rattle.std.proofs.Common.{◌≡◌, ℕ, true, Bor, List, [], length, Some, None, Ok, Err, Result, sym, ap, ◌∙◌, subst, arith}
 use Rattle.std.proofs.lemmas.Bool.{and_from, lt-ltb, eq-eqb}
+use Rattle.circuit.specs.declared.circuit.Circuit.{Circuit}
+use Rattle.circuit.specs.declared.names.Names.{Names}
 use Rattle.circuit.specs.declared.nets.NetKind.{NetKind}
+use Rattle.circuit.specs.Circuits.{names_of}
+use Rattle.circuit.specs.Named.{names_in}
 use Rattle.values.specs.declared.three.Three.{Three}
 use Rattle.trace.specs.declared.entry.Entry.{Entry}
 use Rattle.trace.specs.declared.fault.TraceFault.{TraceFault}
 use Rattle.trace.specs.declared.fault.TraceFault.TheVariants.{FirstLine}
 use Rattle.trace.specs.Laws.{Taken}
-use Rattle.trace.specs.Layout.{entries}
+use Rattle.trace.specs.declared.goal.Goal.{Goal}
+use Rattle.trace.specs.Recordings.{told_of}
+use Rattle.trace.specs.Layout.{entries, fits_in}
 use Rattle.trace.specs.Outcomes.{ReadsAs}
 use Rattle.trace.specs.Readings.{Begun, first_at, read_on, from_first, with_values, trace_read}
-use Rattle.trace.specs.Texts.{Told}
 use Rattle.trace.proofs.Backs.{only-written, refused}
+
+-- the names that a circuit has in a lent text
+pub named-as : (n : Names) (c : Bor Circuit) (text : Bor (List ℕ)) → n.circuit ≡ c → n.text ≡ text → names_in n ≡ names_of text.now c.now
+named-as n c text at in_text = λ i. names_of (in_text i).now (at i).now
 
 module _ (ns ms : List (List ℕ)) (same : ms ≡ ns) (ks : List NetKind) (text : List ℕ) where
   -- the first line is not there
@@ -34,7 +43,7 @@ module _ (ns ms : List (List ℕ)) (same : ms ≡ ns) (ks : List NetKind) (text 
         subst (λ s. ReadsAs s None (trace_read ns ks text) × Taken s ns ks text None) (sym q) (is, refused ns ks text f is)
 
 -- a trace that is read fits its circuit
-pub fits-read : (ns : List (List ℕ)) (ks : List NetKind) (text : List ℕ) (t : Told) → length ns ≡ length ks → trace_read ns ks text ≡ Ok t → (ltb t.target.0 (length ks) && eqb (length t.values) (length (entries ks t.last))) ≡ true
-fits-read ns ks text t level q =
-    let fit = (only-written ns ks text t q).1 in
-    and_from _ _ (lt-ltb t.target.0 (length ks) (omega (arith, fit.target, level))) (eq-eqb _ _ fit.all)
+pub fits-read : (ns : List (List ℕ)) (ks : List NetKind) (text : List ℕ) (g : Goal) (vs : List Three) → length ns ≡ length ks → trace_read ns ks text ≡ Ok (told_of vs g) → fits_in ks (Some g) vs ≡ true
+fits-read ns ks text g vs level q =
+    let fit = (only-written ns ks text (told_of vs g) q).1 in
+    and_from _ _ (lt-ltb g.last.0 64 fit.short) (and_from _ _ (lt-ltb g.target.0 (length ks) (omega (arith, fit.target, level))) (eq-eqb _ _ fit.all))

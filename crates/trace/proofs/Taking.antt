@@ -1,7 +1,7 @@
 -- How a line is read.
 use Rattle.std.proofs.Common.{◌≡◌, ℕ, ◌+◌, ◌-◌, ◌<◌, ◌≤◌, cond, eqb, ltb, List, [], ◌∷◌, ◌++◌, length, get_or, take, drop, Some, None, Option, sym, refl, ap, ◌∙◌, append-nil, arith, Bor, MatchOption}
 use Rattle.std.specs.Option.{option_map}
-use Rattle.std.proofs.lemmas.Bool.{cond-true, lt-ltb, eq-eqb}
+use Rattle.std.proofs.lemmas.Bool.{cond-true, cond-false, lt-ltb, le-ltb, eq-eqb}
 use Rattle.std.proofs.lemmas.List.{take_rest}
 use Rattle.text.specs.declared.class.Class.{Class}
 use Rattle.text.specs.Cut.{stop}
@@ -10,15 +10,18 @@ use Rattle.values.specs.declared.three.Three.{Three}
 use Rattle.sinks.specs.Sinks.{strip}
 use Rattle.trace.specs.Texts.{head}
 use Rattle.sinks.proofs.Puttings.{strip-front, strip-not}
-use Rattle.trace.specs.Readings.{Took, Parted, and_then, took, value_of, valued, line_at, field_at}
+use Rattle.values.specs.Bytes.{value_of}
+use Rattle.trace.specs.Readings.{Took, Parted, and_then, took, valued, line_at, field_at}
 
-pub field-is : (k : Class) (s : List ℕ) (n : ℕ) → n ≡ stop k s → n < length s → ◌≡◌ {A = Option Parted} (Some (record { part = take (n - 0) s; rest = take (length s - (n + 1)) (drop (n + 1) s) })) (field_at k s)
+pub field-is : (k : Class) (s : List ℕ) (n : ℕ) → n ≡ stop k s → n < length s → ◌≡◌ {A = Option Parted} (Some (record { part = take n s; rest = take (length s - (n + 1)) (drop (n + 1) s) })) (field_at k s)
 field-is k s n e h =
-    let zeros : n - 0 ≡ n = omega arith in
-    let first : ◌≡◌ {A = Option Parted} (Some (record { part = take (n - 0) s; rest = take (length s - (n + 1)) (drop (n + 1) s) })) (Some (record { part = take n s; rest = drop (n + 1) s })) =
-    λ i. Some (record { part = take (zeros i) s; rest = take_rest s (n + 1) i }) in
+    let first : ◌≡◌ {A = Option Parted} (Some (record { part = take n s; rest = take (length s - (n + 1)) (drop (n + 1) s) })) (Some (record { part = take n s; rest = drop (n + 1) s })) =
+    λ i. Some (record { part = take n s; rest = take_rest s (n + 1) i }) in
     first ∙ sym (cond-true (ltb n (length s)) _ None (lt-ltb n (length s) h))
     ∙ ap (λ m. cond (ltb m (length s)) (Some (record { part = take m s; rest = drop (m + 1) s })) None) e
+
+pub field-not : (k : Class) (s : List ℕ) → stop k s ≡ length s → None ≡ field_at k s
+field-not k s e = sym (cond-false _ _ None (le-ltb (stop k s) (length s) (omega (arith, e))))
 
 pub value-is : (s : List ℕ) (v : Three) → 2 ≤ length s → get_or s 1 0 ≡ 10 → Some v ≡ value_of (get_or s 0 0) → ◌≡◌ {A = Option Took} (Some (record { value = v; rest = take (length s - 2) (drop 2 s) })) (valued s)
 value-is [] v h f e = absurd (omega arith)

@@ -15,10 +15,10 @@ use Rattle.frames.specs.Rules.{Given, grid, frames_in, FollowsRules}
 use Rattle.frames.proofs.Evaluated.{worked-is}
 use Rattle.frames.proofs.Nearby.{rule-goes, same-keeps}
 use Rattle.frames.proofs.Opens.{follows-itself, open-stays}
-use Rattle.frames.proofs.Places.{frames-are, place-below}
+use Rattle.frames.proofs.Places.{frames-are}
 use Rattle.trace.specs.declared.entry.Entry.{Entry}
 use Rattle.trace.specs.declared.goal.Goal.{Goal}
-use Rattle.trace.specs.Dashes.{frame_of, place_of, put_at, on}
+use Rattle.trace.specs.Dashes.{frame_of, put_at, on}
 use Rattle.trace.specs.Dashing.{Ready, OpenEntry, Worked, Dashes}
 
 -- what is given counts only where a net is open
@@ -83,11 +83,6 @@ module _ (nets : List NetKind) (formed : WellFormed nets) (g : Goal) where
               cond-false _ old (grid threes (length nets) D t n) away ∙ open-stays threes nets (put_at G e U) (g.last.0 + 1) (grid threes (length nets) D) mid t n h k o
               ∙ cond-false _ U (G t n) away
         ]
-
-    -- the entry's place is among the cells
-    pub place-in : (C : List Three) → Ready nets g (length C) → place_of (length nets) e < length C
-    place-in C ready =
-        omega (arith, place-below (frame_of e) e.net.0 (g.last.0 + 1) (length nets) (omega (arith, opened.frame)) opened.net, ready.whole)
 
     -- the try as a whole, where r is what the test saw
     module _ (C D : List Three) (ready : Ready nets g (length C)) (change : Changes threes nets (frame_of e) e.net.0 U C D) (r : Bool) (saw : r ≡ is_one (grid threes (length nets) D g.last.0 g.target.0)) where

@@ -6,6 +6,7 @@ use Rattle.values.specs.declared.three.Three.{Three}
 use Rattle.values.specs.Threes.{threes}
 use Rattle.frames.specs.Rules.{grid}
 use Rattle.trace.specs.declared.goal.Goal.{Goal}
+use Rattle.trace.specs.declared.goal.NotOn.{NotOn}
 use Rattle.trace.specs.declared.recording.Recording.{Recording}
 use Rattle.trace.specs.Dashes.{on, dashed, puts_on, kept_trace}
 use Rattle.trace.specs.Dashing.{Worked}
@@ -14,9 +15,9 @@ use Rattle.trace.specs.Layout.{entries}
 use Rattle.trace.specs.Recordings.{held_trace}
 
 -- the dashes of what stands in the cells C are found, and the frames worked out, in D
-abbrev pub Found : List NetKind → Goal → (C D : List Three) → Bool → Type 0
-Found nets g C D false = (on nets g (grid threes (length nets) C) ≡ false) × (length D ≡ length C)
-Found nets g C D true =
+abbrev pub Found : List NetKind → Goal → (C D : List Three) → Result (Unit {0}) NotOn → Type 0
+Found nets g C D (Err e) = (on nets g (grid threes (length nets) C) ≡ false) × (length D ≡ length C)
+Found nets g C D (Ok u) =
     (on nets g (grid threes (length nets) C) ≡ true) × (length D ≡ length C)
     × Worked nets g (dashed nets g (entries nets g.last.0) (grid threes (length nets) C)) D
 

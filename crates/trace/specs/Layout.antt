@@ -8,6 +8,7 @@ use Rattle.circuit.specs.declared.nets.Start.TheVariants.{Zero, One, Free}
 use Rattle.circuit.specs.Names.{net}
 use Rattle.values.specs.declared.three.Three.{Three}
 use Rattle.trace.specs.declared.entry.Entry.{Entry}
+use Rattle.trace.specs.declared.goal.Goal.{Goal}
 
 abbrev pub frame_at : ℕ → Frame
 frame_at n = record { 0 = n }
@@ -54,6 +55,7 @@ frames (suc c) f ks = picks (Some (frame_at f)) 0 ks ++ frames c (suc f) ks
 abbrev pub entries : List NetKind → ℕ → List Entry
 entries ks k = picks None 0 ks ++ frames (k + 1) 0 ks
 
--- where a trace is held, its target is a net of the circuit, and it has a value for each entry
-abbrev pub fits_in : List NetKind → Bool → ℕ → ℕ → List Three → Bool
-fits_in ks held last target vs = cond held (nat_lt target (length ks) && length vs == length (entries ks last)) true
+-- where a trace is held, it ends before frame 64, its target is a net of the circuit, and it has a value for each entry
+abbrev pub fits_in : List NetKind → Option Goal → List Three → Bool
+fits_in ks None vs = true
+fits_in ks (Some g) vs = nat_lt g.last.0 64 && (nat_lt g.target.0 (length ks) && length vs == length (entries ks g.last.0))

@@ -14,3 +14,5 @@ pub mod Dashing
 pub mod Fillings
 pub mod Keeping
 pub mod Laid
+pub mod Aims
+pub mod Scripts

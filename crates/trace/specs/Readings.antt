@@ -11,7 +11,7 @@ use Rattle.trace.specs.declared.entry.Entry.{Entry}
 use Rattle.trace.specs.declared.fault.TraceFault.{TraceFault}
 use Rattle.trace.specs.declared.fault.TraceFault.TheVariants.{FirstLine, LaterLine}
 use Rattle.values.specs.declared.three.Three.{Three}
-use Rattle.values.specs.declared.three.Three.TheVariants.{Zero, One, U}
+use Rattle.values.specs.Bytes.{value_of}
 use Rattle.trace.specs.Layout.{entries}
 use Rattle.sinks.specs.Sinks.{strip}
 use Rattle.trace.specs.Texts.{Told, head}
@@ -19,9 +19,6 @@ use Rattle.trace.specs.Texts.{Told, head}
 abbrev pub and_then : {A B : Type 0} → Option A → (A → Option B) → Option B
 and_then None f = None
 and_then (Some x) f = f x
-
-abbrev pub value_of : ℕ → Option Three
-value_of b = cond (b == 48) (Some Zero) (cond (b == 49) (Some One) (cond (b == 45) (Some U) None))
 
 abbrev pub digit_of : ℕ → Option ℕ
 digit_of b = cond (within 48 57 b) (Some (b - 48)) None

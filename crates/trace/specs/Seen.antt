@@ -13,6 +13,9 @@ abbrev pub seen_split : Option Split → Option Parted
 seen_split None = None
 seen_split (Some f) = Some (record { part = f.part.now; rest = f.rest.now })
 
+abbrev pub begun : First → Begun
+begun f = record { last = f.goal.last.0; target = f.goal.target; rest = f.rest.now }
+
 abbrev pub seen_first : Option First → Option Begun
 seen_first None = None
-seen_first (Some f) = Some (record { last = f.last.0; target = f.target; rest = f.rest.now })
+seen_first (Some f) = Some (begun f)

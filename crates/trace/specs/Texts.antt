@@ -6,14 +6,9 @@ use Rattle.circuit.specs.Names.{name_at}
 use Rattle.circuit.specs.declared.nets.NetKind.{NetKind}
 use Rattle.trace.specs.declared.entry.Entry.{Entry}
 use Rattle.values.specs.declared.three.Three.{Three}
+use Rattle.values.specs.Bytes.{byte_of}
 use Rattle.trace.specs.Layout.{entries}
-use Rattle.values.specs.declared.three.Three.TheVariants.{Zero, One, U}
 use Rattle.sinks.specs.Sinks.{concat}
-
-abbrev pub byte_of : Three → ℕ
-byte_of Zero = 48
-byte_of One = 49
-byte_of U = 45
 
 -- a number below 100
 abbrev pub digits_of : ℕ → List ℕ

@@ -9,27 +9,19 @@ use crate::recording::Recording;
 use crate::view::Trace;
 use circuit::circuit::Circuit;
 use circuit::fault::ReadFault;
-use circuit::nets::{Frame, Net};
 use std::alloc::{AllocError, Global};
-
-// 256 free starts, and 256 inputs in each of 64 frames.
-const MOST_VALUES: usize = 16640;
-
-// 256 nets in each of 64 frames.
-const MOST_CELLS: usize = 16384;
+use store::Store;
 
 impl Recording {
     // No trace is held at first. There is room for any trace of any circuit.
     pub fn new(heap: Global, circuit: Circuit) -> Result<Recording, AllocError>
         ensures { IfOk result (Fresh circuit) }
     {
-        let values = Vec::with_capacity(heap, MOST_VALUES)?;
-        let cells = Vec::with_capacity(heap, MOST_CELLS)?;
+        let values = Store::new(heap)?;
+        let cells = Store::new(heap)?;
         Ok(Recording {
             circuit,
-            held: false,
-            last: Frame(0),
-            target: Net(0),
+            goal: None,
             values,
             cells,
         })
@@ -45,12 +37,9 @@ impl Recording {
     pub fn trace(&self) -> Option<Trace<'_>>
         ensures { option_map told result ≡ held_trace self.now }
     {
-        if !self.held {
-            return None;
-        }
+        let goal = self.goal?;
         Some(Trace {
-            last: self.last,
-            target: self.target,
+            goal,
             values: self.values.as_slice(),
         })
     }
@@ -60,7 +49,7 @@ impl Recording {
         ensures circuit { self.new.circuit ≡ self.old.circuit }
         ensures trace { held_trace self.new ≡ None }
     {
-        self.held = false;
+        self.goal = None;
     }
 
     // Reads another circuit, and holds no trace any more.

@@ -1,53 +1,43 @@
 // The entries one by one.
-ghost use Rattle.std.specs.Prelude.{◌≡◌, ◌+◌, ◌<◌, ◌≤◌, [], ◌∷◌, length, drop, MatchOption};
-ghost use Rattle.trace.specs.Layout.{wanted, picks, entry, entries};
-ghost use Rattle.trace.specs.Coming.{left, Rows, Nexts};
+ghost use Rattle.std.specs.Prelude.{◌≡◌, ◌<◌, position};
+ghost use Rattle.std.specs.Iterator.{YieldsFirst, item_count};
+ghost use Rattle.circuit.specs.Circuits.{nets_of};
+ghost use Rattle.trace.specs.Layout.{wanted, entries};
+ghost use Rattle.trace.specs.Coming.{left, Rows};
 
 use crate::entry::{Entries, Entry};
+use circuit::circuit::Circuit;
 use circuit::nets::{Frame, Net, NetKind, Start};
 
 // Whether the net has an entry at its start, or else in a frame.
 fn is_wanted(frame: Option<Frame>, kind: NetKind) -> bool
     ensures { result ≡ wanted frame kind }
 {
-    match (frame, kind) {
-        (
-            None,
-            NetKind::Latch {
-                next: _,
-                start: Start::Free,
-            },
-        ) => true,
-        (Some(_), NetKind::Input) => true,
+    match kind {
+        NetKind::Input => frame.is_some(),
+        NetKind::Latch { start, .. } => frame.is_none() && start == Start::Free,
         _ => false,
     }
 }
 
-// The first net from `place` on that has an entry.
-fn first(nets: &[NetKind], place: usize, frame: Option<Frame>) -> Option<usize>
-    ensures { MatchOption result (picks frame place (drop place nets.now) ≡ []) (λ i. (i < length nets.now) × (picks frame place (drop place nets.now) ≡ entry frame i ∷ picks frame (i + 1) (drop (i + 1) nets.now))) }
+// How many nets stand before the first that has an entry, if one has.
+fn ahead(nets: &[NetKind], frame: Option<Frame>) -> Option<usize>
+    ensures { result ≡ position (wanted frame) nets.now }
 {
-    for i in place..nets.len() {
-        if is_wanted(frame, nets[i]) {
-            return Some(i);
-        }
-    }
-    None
+    nets.iter().position(|kind| is_wanted(frame, *kind))
 }
 
 impl<'a> Entries<'a> {
     // The entries of a trace that ends in the frame `last`.
-    pub(crate) fn new(nets: &'a [NetKind], last: Frame) -> Entries<'a>
-        requires few { length nets.now ≤ 256 }
-        requires short { last.0 < 64 }
-        ensures { left result ≡ entries nets.now last.0 }
+    pub(crate) fn new(circuit: &'a Circuit, last: Frame) -> Entries<'a>
+        requires { last.0 < 64 }
+        ensures { left result ≡ entries (nets_of circuit.now) last.0 }
     {
         Entries {
-            nets,
+            nets: circuit.nets(),
             place: 0,
             frame: None,
-            coming: 0,
-            rows: last.0 + 1,
+            frames: 0..last.0 + 1,
         }
     }
 
@@ -55,26 +45,29 @@ impl<'a> Entries<'a> {
     fn in_row(&mut self) -> Option<Entry>
         ensures { Rows self.old self.new result }
     {
-        let place = first(self.nets, self.place, self.frame)?;
+        let rest = self.nets.get(self.place..)?;
+        let place = self.place + ahead(rest, self.frame)?;
         self.place = place + 1;
         Some(Entry {
             frame: self.frame,
+            // The cast is proved; a conversion that may fail would bring a refusal that cannot come.
             net: Net(place as u32),
         })
     }
+}
 
-    pub(crate) fn next(&mut self) -> Option<Entry>
-        ensures { Nexts (left self.old) (left self.new) result }
-    {
+impl Iterator for Entries<'_> {
+    type Item = Entry;
+
+    ghost next_gives = { YieldsFirst left };
+
+    ghost remaining = { item_count left };
+
+    fn next(&mut self) -> Option<Entry> {
         if let Some(entry) = self.in_row() {
             return Some(entry);
         }
-        if self.rows == 0 {
-            return None;
-        }
-        self.frame = Some(Frame(self.coming));
-        self.coming += 1;
-        self.rows -= 1;
+        self.frame = Some(Frame(self.frames.next()?));
         self.place = 0;
         self.in_row()
     }

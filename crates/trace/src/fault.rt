@@ -1,10 +1,12 @@
 // Why a trace is not written or not read.
-ghost use Rattle.std.specs.Prelude.{◌≡◌};
+ghost use Rattle.std.specs.Prelude.{◌≡◌, ◌<◌, length};
 ghost use Rattle.trace.specs.Faults.{trace_number, trace_line, write_number, write_line};
 ghost use Rattle.trace.specs.declared.fault.WriteFault.TheVariants.{Circuit, Short};
 
 use circuit::fault::ReadFault;
 use sinks::sink::Refused;
+use std::error::Error;
+use std::fmt;
 
 // Why a trace is not written: the circuit text is refused, it lacks a net that the trace names, no trace is held, or the
 // buffer is too short.
@@ -33,7 +35,7 @@ impl From<Refused> for WriteFault {
 }
 
 impl WriteFault {
-    // The number under which the refusal is known.
+    // The number under which the refusal is known; docs/REFUSALS.md lists it.
     pub fn number(self) -> u8
         ensures { result ≡ write_number self }
     {
@@ -45,7 +47,7 @@ impl WriteFault {
         }
     }
 
-    // The line at fault, 0 where it is no line's fault.
+    // The line at fault; 0, and not none, where it is no line's fault, since the line is printed.
     pub fn line(self) -> usize
         ensures { result ≡ write_line self }
     {
@@ -64,7 +66,7 @@ pub enum TraceFault {
 }
 
 impl TraceFault {
-    // The number under which the refusal is known.
+    // The number under which the refusal is known; docs/REFUSALS.md lists it.
     pub fn number(self) -> u8
         ensures { result ≡ trace_number self }
     {
@@ -83,4 +85,26 @@ impl TraceFault {
             TraceFault::LaterLine(line) => line,
         }
     }
+
+    // What is wrong, and what to do about it.
+    pub fn sentence(self) -> &'static str
+        ensures { 0 < length result.now }
+    {
+        match self {
+            TraceFault::FirstLine => {
+                "the first line of the trace is not run, a length of 0 to 63 and a net of the circuit, with tabs"
+            }
+            TraceFault::LaterLine(_) => {
+                "a later line of the trace is not the one that this circuit asks for there: see which start or input comes next"
+            }
+        }
+    }
 }
+
+impl fmt::Display for TraceFault {
+    fn fmt<W: fmt::Write>(&self, f: &mut fmt::Formatter<W>) -> fmt::Result {
+        f.write_str(self.sentence())
+    }
+}
+
+impl Error for TraceFault {}

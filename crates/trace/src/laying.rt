@@ -5,11 +5,11 @@ ghost use Rattle.trace.specs.Laid.{held_laid};
 ghost use Rattle.trace.specs.Recordings.{held_trace};
 
 use crate::entry::Entries;
-use crate::keep::place_of;
 use crate::recording::Recording;
 use values::Three;
 
-// Puts a value at a place, if there is one.
+// Puts a value at a place, if there is one. Not by `get_mut`: of what it lends, the library does not say how it is seen in the
+// slice afterwards.
 fn put_cell(cells: &mut [Three], i: usize, value: Three)
     ensures { cells.new ≡ slice_set cells.old i value }
 {
@@ -26,12 +26,9 @@ impl Recording {
         let Some(trace) = self.trace() else {
             return;
         };
-        let mut coming = Entries::new(self.circuit.nets(), trace.last);
-        for value in trace.values {
-            let Some(entry) = coming.next() else {
-                return;
-            };
-            put_cell(cells, place_of(&self.circuit, entry), *value);
+        let entries = Entries::new(&self.circuit, trace.goal.last);
+        for (entry, value) in entries.zip(trace.values) {
+            put_cell(cells, entry.place(&self.circuit), *value);
         }
     }
 }

@@ -20,17 +20,15 @@ impl Recording {
         ensures taken { Taken result (names_of names.now self.old.circuit) (nets_of self.old.circuit) text.now (held_trace self.new) }
         ensures circuit { self.new.circuit ≡ self.old.circuit }
     {
-        self.held = false;
+        self.goal = None;
         self.values.clear();
         let names = Names::new(&self.circuit, names);
         let Some(first) = first_line(names, text) else {
             return Err(TraceFault::FirstLine);
         };
-        let entries = Entries::new(self.circuit.nets(), first.last);
+        let entries = Entries::new(&self.circuit, first.goal.last);
         read_lines(&mut self.values, names, entries, first.rest)?;
-        self.last = first.last;
-        self.target = first.target;
-        self.held = true;
+        self.goal = Some(first.goal);
         Ok(())
     }
 }

@@ -1,44 +1,33 @@
 // Reading a trace, line by line.
-ghost use Rattle.std.specs.Prelude.{◌≡◌, ◌≤◌, [], length, vec_capacity};
+ghost use Rattle.std.specs.Prelude.{◌≡◌, ◌≤◌, [], length};
 ghost use Rattle.std.specs.Option.{option_map};
 ghost use Rattle.circuit.specs.Named.{names_in};
 ghost use Rattle.circuit.specs.Reading.{outcome};
 ghost use Rattle.sinks.specs.Sinks.{strip};
 ghost use Rattle.trace.specs.Coming.{left};
-ghost use Rattle.trace.specs.Readings.{value_of, digit_of, number_of, valued, line_at, field_at, first_at, read_on};
+ghost use Rattle.trace.specs.Readings.{digit_of, number_of, valued, line_at, field_at, first_at, read_on};
 ghost use Rattle.trace.specs.Seen.{seen_taken, seen_split, seen_first};
 
 use crate::entry::{Entries, Entry};
 use crate::fault::TraceFault;
+use crate::goal::Goal;
+use crate::recording::MOST_VALUES;
 use crate::writing::put_head;
 use circuit::names::Names;
-use circuit::nets::{Frame, Net};
+use circuit::nets::Frame;
 use sinks::matcher::Matcher;
+use store::Store;
 use text::class::Class;
-use text::cut::bytes_before;
+use text::cut::first_of;
 use values::Three;
-
-fn value_of(b: u8) -> Option<Three>
-    ensures { result ≡ value_of b }
-{
-    match b {
-        b'0' => Some(Three::Zero),
-        b'1' => Some(Three::One),
-        b'-' => Some(Three::U),
-        _ => None,
-    }
-}
 
 fn digit_of(b: u8) -> Option<u32>
     ensures { result ≡ digit_of b }
 {
-    match b {
-        b'0'..=b'9' => Some((b - b'0') as u32),
-        _ => None,
-    }
+    char::from(b).to_digit(10)
 }
 
-// A number below 64, without a leading zero.
+// A number below 64, without a leading zero: by hand, since the library's `parse` takes leading zeros and a sign.
 fn number_of(field: &[u8]) -> Option<u32>
     ensures { result ≡ number_of field.now }
 {
@@ -48,7 +37,7 @@ fn number_of(field: &[u8]) -> Option<u32>
             let tens = digit_of(*d)?;
             let ones = digit_of(*e)?;
             let n = 10 * tens + ones;
-            if tens > 0 && n < 64 { Some(n) } else { None }
+            (tens > 0 && n < 64).then_some(n)
         }
         _ => None,
     }
@@ -66,7 +55,7 @@ fn take_value<'a>(text: &'a [u8]) -> Option<Taken<'a>>
 {
     match text {
         [b, b'\n', rest @ ..] => {
-            let value = value_of(*b)?;
+            let value = Three::try_from(*b).ok()?;
             Some(Taken { value, rest })
         }
         _ => None,
@@ -77,13 +66,14 @@ pub(crate) fn take_line<'a>(names: Names, entry: Entry, text: &'a [u8]) -> Optio
     ensures { seen_taken result ≡ line_at (names_in names.entry) entry text.now }
 {
     let mut matcher = Matcher { rest: text };
-    match put_head(&mut matcher, names, entry) {
-        Ok(()) => take_value(matcher.rest),
-        Err(_) => None,
-    }
+    // Not `.ok()?`: tried, and the proof then lacks what a refused head says of the text.
+    let Ok(()) = put_head(&mut matcher, names, entry) else {
+        return None;
+    };
+    take_value(matcher.rest)
 }
 
-// What a byte of some class closes, and what follows.
+// What a byte of some class closes, and what follows: by a slice and no reader, since a fault of a trace names no place.
 #[derive(Clone, Copy)]
 struct Split<'a> {
     part: &'a [u8],
@@ -93,15 +83,11 @@ struct Split<'a> {
 fn field<'a>(text: &'a [u8], class: Class) -> Option<Split<'a>>
     ensures { seen_split result ≡ field_at class text.now }
 {
-    let n = bytes_before(text, class);
-    if n < text.len() {
-        Some(Split {
-            part: &text[0..n],
-            rest: &text[n + 1..],
-        })
-    } else {
-        None
-    }
+    let n = first_of(text, class)?;
+    Some(Split {
+        part: &text[..n],
+        rest: &text[n + 1..],
+    })
 }
 
 fn after<'a>(text: &'a [u8], front: &[u8]) -> Option<&'a [u8]>
@@ -113,8 +99,7 @@ fn after<'a>(text: &'a [u8], front: &[u8]) -> Option<&'a [u8]>
 // What the first line says, and what follows it.
 #[derive(Clone, Copy)]
 pub(crate) struct First<'a> {
-    pub(crate) last: Frame,
-    pub(crate) target: Net,
+    pub(crate) goal: Goal,
     pub(crate) rest: &'a [u8],
 }
 
@@ -127,31 +112,26 @@ pub(crate) fn first_line<'a>(names: Names, text: &'a [u8]) -> Option<First<'a>>
     let name = field(number.rest, Class::Feed)?;
     let target = names.net(name.part)?;
     Some(First {
-        last,
-        target,
+        goal: Goal { last, target },
         rest: name.rest,
     })
 }
 
 pub(crate) fn read_lines(
-    values: &mut Vec<Three>,
+    values: &mut Store<Three, MOST_VALUES>,
     names: Names,
-    mut entries: Entries,
+    entries: Entries,
     text: &[u8],
 ) -> Result<(), TraceFault>
-    requires empty { values.old.items ≡ [] }
-    requires room { length (left entries) ≤ vec_capacity values.old }
+    requires empty { values.old ≡ [] }
     requires few { length (left entries) ≤ 16640 }
-    ensures is { outcome result values.new.items ≡ read_on (names_in names.entry) [] (left entries.entry) text.now }
-    ensures room { vec_capacity values.new ≡ vec_capacity values.old }
+    ensures { outcome result values.new ≡ read_on (names_in names.entry) [] (left entries.entry) text.now }
 {
     let mut rest = text;
-    while let Some(entry) = entries.next() {
+    for entry in entries {
         let line = values.len() + 2;
-        let Some(taken) = take_line(names, entry, rest) else {
-            return Err(TraceFault::LaterLine(line));
-        };
-        values.push_reserved(taken.value);
+        let taken = take_line(names, entry, rest).ok_or(TraceFault::LaterLine(line))?;
+        values.push(taken.value);
         rest = taken.rest;
     }
     if rest.is_empty() {

@@ -7,45 +7,32 @@ ghost use Rattle.circuit.specs.Reading.{reading};
 ghost use Rattle.sinks.specs.Sinks.{filled};
 ghost use Rattle.trace.specs.Laws.{Back};
 ghost use Rattle.trace.specs.Recordings.{held_trace};
-ghost use Rattle.trace.specs.Texts.{trace_text};
+ghost use Rattle.trace.specs.Scripts.{script_text};
 ghost use Rattle.trace.specs.Traces.{told};
-ghost use Rattle.trace.specs.Writing.{shown, has_name, covered, Measured, writing, writes, held_text, written};
+ghost use Rattle.trace.specs.Writing.{has_name, covered, Measured, writing, writes, held_text, written};
 
 use crate::fault::WriteFault;
 use crate::recording::Recording;
-use crate::view::Trace;
-use crate::writing::put_text;
+use crate::script::Script;
 use circuit::circuit::Circuit;
 use circuit::names::Names;
-use circuit::nets::{NetKind, Start};
+use circuit::nets::{Frame, NetKind};
+use frames::is_open;
 use sinks::page::Page;
 use sinks::room::Room;
 use sinks::sink::Refused;
 
-// Whether a trace names the net.
-fn is_shown(kind: NetKind) -> bool
-    ensures { result ≡ shown kind }
-{
-    match kind {
-        NetKind::Input => true,
-        NetKind::Latch {
-            next: _,
-            start: Start::Free,
-        } => true,
-        _ => false,
-    }
-}
-
 fn has_name(count: usize, i: usize, kind: NetKind) -> bool
     ensures { result ≡ has_name count i kind }
 {
-    if is_shown(kind) { i < count } else { true }
+    !is_open(kind, Frame(0)) || i < count
 }
 
 // Whether each net that a trace names is among the first `count`.
 fn is_covered(count: usize, nets: &[NetKind]) -> bool
     ensures { result ≡ covered count 0 nets.now }
 {
+    // Not `all`: tried, and the proof does not learn which numbers `enumerate` gave its closure.
     for (i, kind) in nets.iter().enumerate() {
         if !has_name(count, i, *kind) {
             return false;
@@ -54,51 +41,36 @@ fn is_covered(count: usize, nets: &[NetKind]) -> bool
     true
 }
 
-// The length of the text, if there is room for it.
-fn measure(names: Names, nets: &[NetKind], trace: Trace, room: usize) -> Result<usize, Refused>
-    requires few { length nets.now ≤ 256 }
-    requires short { trace.last.0 < 64 }
-    ensures { Measured (length (trace_text (names_in names.entry) nets.now (told trace.entry))) room result }
-{
-    let mut sink = Room { left: room };
-    put_text(&mut sink, names, nets, trace)?;
-    Ok(room - sink.left)
-}
+impl Script<'_, '_, '_> {
+    // The length of the text, if there is room for it.
+    fn measure(self, room: usize) -> Result<usize, Refused>
+        ensures { Measured (length (script_text self.entry)) room result }
+    {
+        let mut sink = Room { left: room };
+        self.put(&mut sink)?;
+        Ok(room - sink.left)
+    }
 
-fn fill(names: Names, nets: &[NetKind], trace: Trace, out: &mut [u8])
-    requires few { length nets.now ≤ 256 }
-    requires short { trace.last.0 < 64 }
-    requires room { length (trace_text (names_in names) nets.now (told trace)) ≤ length out.old }
-    ensures { out.new ≡ filled (trace_text (names_in names.entry) nets.now (told trace.entry)) out.old }
-{
-    let mut page = Page { out, place: 0 };
-    match put_text(&mut page, names, nets, trace) {
-        Ok(()) => {}
-        Err(_) => unreachable(),
+    fn fill(self, out: &mut [u8])
+        requires { length (script_text self) ≤ length out.old }
+        ensures { out.new ≡ filled (script_text self.entry) out.old }
+    {
+        let mut page = Page { out, place: 0 };
+        self.put(&mut page).unwrap();
     }
-}
 
-fn write_named(
-    names: Names,
-    nets: &[NetKind],
-    trace: Trace,
-    out: &mut [u8],
-) -> Result<usize, WriteFault>
-    requires few { length nets.now ≤ 256 }
-    requires short { trace.last.0 < 64 }
-    ensures answer { result ≡ writing (names_in names.entry) nets.now (told trace.entry) (length out.old) }
-    ensures out { out.new ≡ written (trace_text (names_in names.entry) nets.now (told trace.entry)) out.old result }
-{
-    let count = names.len();
-    if trace.target.0 as usize >= count {
-        return Err(WriteFault::NoNet);
+    fn write(self, out: &mut [u8]) -> Result<usize, WriteFault>
+        ensures answer { result ≡ writing (names_in self.entry.names) (nets_of self.entry.circuit.now) (told self.entry.trace) (length out.old) }
+        ensures out { out.new ≡ written (script_text self.entry) out.old result }
+    {
+        let count = self.names.len();
+        if usize::from(self.trace.goal.target) >= count || !is_covered(count, self.circuit.nets()) {
+            return Err(WriteFault::NoNet);
+        }
+        let size = self.measure(out.len())?;
+        self.fill(out);
+        Ok(size)
     }
-    if !is_covered(count, nets) {
-        return Err(WriteFault::NoNet);
-    }
-    let size = measure(names, nets, trace, out.len())?;
-    fill(names, nets, trace, out);
-    Ok(size)
 }
 
 impl Recording {
@@ -116,9 +88,12 @@ impl Recording {
         ensures spare { LeftBy (reading text.now) text.now spare.new }
     {
         spare.read(text)?;
-        let Some(trace) = self.trace() else {
-            return Err(WriteFault::NoTrace);
+        let trace = self.trace().ok_or(WriteFault::NoTrace)?;
+        let script = Script {
+            names: Names::new(spare, text),
+            circuit: &self.circuit,
+            trace,
         };
-        write_named(Names::new(spare, text), self.circuit.nets(), trace, out)
+        script.write(out)
     }
 }

@@ -3,104 +3,90 @@ ghost use Rattle.std.specs.Prelude.{◌≡◌, ◌<◌, ◌≤◌, length};
 ghost use Rattle.circuit.specs.Named.{names_in};
 ghost use Rattle.sinks.specs.Sinks.{Puts};
 ghost use Rattle.trace.specs.Coming.{left};
-ghost use Rattle.trace.specs.Texts.{byte_of, decimal, digits_of, first_line, head, line, lines, trace_text};
-ghost use Rattle.trace.specs.Traces.{told};
+ghost use Rattle.trace.specs.Scripts.{script_text};
+ghost use Rattle.trace.specs.Texts.{decimal, first_line, head, line, lines};
 
+use crate::decimal::Decimal;
 use crate::entry::{Entries, Entry};
-use crate::view::Trace;
+use crate::goal::Goal;
+use crate::script::Script;
 use circuit::names::Names;
-use circuit::nets::{Frame, Net, NetKind};
-use sinks::parts::{put_five, put_three};
+use sinks::parts::put_all;
 use sinks::sink::{Refused, Sink};
 use values::Three;
 
-fn byte_of(value: Three) -> u8
-    ensures { result ≡ byte_of value }
-{
-    match value {
-        Three::Zero => b'0',
-        Three::One => b'1',
-        Three::U => b'-',
+impl Decimal {
+    fn new(n: u32) -> Decimal
+        ensures { result.n ≡ n }
+    {
+        // the casts are proved: a digit fits a byte
+        let digits = [b'0' + (n / 10 % 10) as u8, b'0' + (n % 10) as u8];
+        Decimal { n, digits }
+    }
+
+    // Without a leading zero.
+    fn as_bytes(&self) -> &[u8]
+        ensures { result.now ≡ decimal self.now.n }
+    {
+        if self.n < 10 {
+            &self.digits[1..]
+        } else {
+            &self.digits
+        }
     }
 }
 
-fn digits(n: u32) -> [u8; 2]
-    ensures { result ≡ digits_of n }
-{
-    [b'0' + (n / 10 % 10) as u8, b'0' + (n % 10) as u8]
-}
-
-// A number below 100, without a leading zero.
-fn significant(n: u32, digits: &[u8]) -> &[u8]
-    requires { digits.now ≡ digits_of n }
-    ensures { result.now ≡ decimal n }
-{
-    if n < 10 { &digits[1..] } else { digits }
-}
-
+// The calls that put take the sink and the names side by side: a struct that held the sink, lent to be written, would owe after
+// each call that it holds the same one.
 pub(crate) fn put_head<S: Sink>(sink: &mut S, names: Names, entry: Entry) -> Result<(), Refused>
-    ensures puts { Puts (S.meaning sink.old) (S.meaning sink.new) (head (names_in names.entry) entry) result }
-    ensures home { S.home sink.new ≡ S.home sink.old }
+    ensures { Puts (S.meaning sink.old) (S.meaning sink.new) (head (names_in names.entry) entry) result }
 {
     let name = names.name(entry.net);
     match entry.frame {
-        None => put_three(sink, b"s\t", name, b"\t"),
+        None => put_all(sink, &[b"s\t", name, b"\t"]),
         Some(frame) => {
-            let digits = digits(frame.0);
-            let number = significant(frame.0, &digits);
-            put_five(sink, b"i\t", number, b"\t", name, b"\t")
+            let number = Decimal::new(frame.0);
+            put_all(sink, &[b"i\t", number.as_bytes(), b"\t", name, b"\t"])
         }
     }
 }
 
 fn put_line<S: Sink>(sink: &mut S, names: Names, entry: Entry, value: Three) -> Result<(), Refused>
-    ensures puts { Puts (S.meaning sink.old) (S.meaning sink.new) (line (names_in names.entry) entry value) result }
-    ensures home { S.home sink.new ≡ S.home sink.old }
+    ensures { Puts (S.meaning sink.old) (S.meaning sink.new) (line (names_in names.entry) entry value) result }
 {
     put_head(sink, names, entry)?;
-    sink.put(&[byte_of(value), b'\n'])
+    sink.put(&[u8::from(value), b'\n'])
 }
 
 fn put_lines<S: Sink>(
     sink: &mut S,
     names: Names,
-    mut entries: Entries,
+    entries: Entries,
     values: &[Three],
 ) -> Result<(), Refused>
-    ensures puts { Puts (S.meaning sink.old) (S.meaning sink.new) (lines (names_in names.entry) (left entries.entry) values.now) result }
-    ensures home { S.home sink.new ≡ S.home sink.old }
+    ensures { Puts (S.meaning sink.old) (S.meaning sink.new) (lines (names_in names.entry) (left entries.entry) values.now) result }
 {
-    for value in values {
-        let Some(entry) = entries.next() else {
-            return Ok(());
-        };
+    for (entry, value) in entries.zip(values) {
         put_line(sink, names, entry, *value)?;
     }
     Ok(())
 }
 
-fn put_first<S: Sink>(sink: &mut S, names: Names, last: Frame, target: Net) -> Result<(), Refused>
-    ensures puts { Puts (S.meaning sink.old) (S.meaning sink.new) (first_line (names_in names.entry) last.0 target) result }
-    ensures home { S.home sink.new ≡ S.home sink.old }
+fn put_first<S: Sink>(sink: &mut S, names: Names, goal: Goal) -> Result<(), Refused>
+    ensures { Puts (S.meaning sink.old) (S.meaning sink.new) (first_line (names_in names.entry) goal.last.0 goal.target) result }
 {
-    let digits = digits(last.0);
-    let number = significant(last.0, &digits);
-    let name = names.name(target);
-    put_five(sink, b"run\t", number, b"\t", name, b"\n")
+    let number = Decimal::new(goal.last.0);
+    let name = names.name(goal.target);
+    put_all(sink, &[b"run\t", number.as_bytes(), b"\t", name, b"\n"])
 }
 
-pub(crate) fn put_text<S: Sink>(
-    sink: &mut S,
-    names: Names,
-    nets: &[NetKind],
-    trace: Trace,
-) -> Result<(), Refused>
-    requires few { length nets.now ≤ 256 }
-    requires short { trace.last.0 < 64 }
-    ensures puts { Puts (S.meaning sink.old) (S.meaning sink.new) (trace_text (names_in names.entry) nets.now (told trace.entry)) result }
-    ensures home { S.home sink.new ≡ S.home sink.old }
-{
-    put_first(sink, names, trace.last, trace.target)?;
-    let entries = Entries::new(nets, trace.last);
-    put_lines(sink, names, entries, trace.values)
+impl Script<'_, '_, '_> {
+    // Puts the whole text.
+    pub(crate) fn put<S: Sink>(self, sink: &mut S) -> Result<(), Refused>
+        ensures { Puts (S.meaning sink.old) (S.meaning sink.new) (script_text self.entry) result }
+    {
+        put_first(sink, self.names, self.trace.goal)?;
+        let entries = Entries::new(self.circuit, self.trace.goal.last);
+        put_lines(sink, self.names, entries, self.trace.values)
+    }
 }

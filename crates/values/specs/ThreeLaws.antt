@@ -1,8 +1,10 @@
 -- The three-way values keep to the laws.
 use Rattle.std.specs.Prelude.{◌≡◌, Bool, true, false, not, ◌&&◌, refl}
-use Rattle.std.proofs.Common.{sym, subst}
+use Rattle.std.proofs.Common.{subst}
+use Rattle.std.proofs.Math.Bool.{and-true}
 use Rattle.std.proofs.lemmas.Bool.{false≢true}
 use Rattle.circuit.specs.Runs.{differ}
+use Rattle.values.specs.Bits.{bit_same}
 use Rattle.values.specs.Laws.{Laws, From1, From2, Admits}
 use Rattle.values.specs.Threes.{threes, three_of, three_not, three_and, three_xor}
 use Rattle.values.specs.declared.three.Three.{Three}
@@ -18,9 +20,8 @@ three_self true = refl
 three_self false = refl
 
 alone : (b c : Bool) → Admits threes (three_of b) c → b ≡ c
-alone true c h = sym h
-alone false true h = h
-alone false false h = refl
+alone true = bit_same true
+alone false = bit_same false
 
 not_kept : (v : Three) (a : Bool) → Admits threes v a → Admits threes (three_not v) (not a)
 not_kept Zero a h = h
@@ -53,18 +54,14 @@ not_back One false h = (true, refl, refl)
 not_back U true h = (false, refl, refl)
 not_back U false h = (true, refl, refl)
 
-and_true : (a : Bool) → (a && true) ≡ a
-and_true true = refl
-and_true false = refl
-
 and_back : (v w : Three) (c : Bool) → Admits threes (three_and v w) c → From2 threes ◌&&◌ v w c
 and_back Zero w true h = absurd (false≢true h)
 and_back Zero w false h = (false, (some_bit w).0, refl, (some_bit w).1, refl)
 and_back One w c h = (true, c, refl, h, refl)
 and_back U Zero true h = absurd (false≢true h)
 and_back U Zero false h = (false, false, refl, refl, refl)
-and_back U One c h = (c, true, refl, refl, and_true c)
-and_back U U c h = (c, true, refl, refl, and_true c)
+and_back U One c h = (c, true, refl, refl, and-true c)
+and_back U U c h = (c, true, refl, refl, and-true c)
 
 differ_back : (b c : Bool) → differ (differ b c) b ≡ c
 differ_back true true = refl

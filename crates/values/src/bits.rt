@@ -1,4 +1,5 @@
 // A bit as a kind of values: it stands for itself alone.
+ghost use Rattle.std.proofs.Common.{rules};
 ghost use Rattle.values.specs.Bits.{bits, bit_laws};
 
 use crate::kind::Kind;
@@ -8,9 +9,9 @@ impl Kind for bool {
 
     ghost laws = { bit_laws };
 
-    fn of(bit: bool) -> bool {
-        bit
-    }
+    ghost from_only = { Prim.search rules };
+
+    ghost eq_decides = { Prim.search rules };
 
     fn inverse(self) -> bool {
         !self
@@ -22,9 +23,5 @@ impl Kind for bool {
 
     fn xor(self, other: bool) -> bool {
         self ^ other
-    }
-
-    fn same(self, other: bool) -> bool {
-        self == other
     }
 }

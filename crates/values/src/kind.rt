@@ -1,18 +1,15 @@
 // What every kind of values can do.
-ghost use Rattle.std.specs.Prelude.{◌≡◌, Decides};
+ghost use Rattle.std.specs.Prelude.{◌≡◌, Bool, Decides};
 ghost use Rattle.values.specs.Laws.{Algebra, Laws};
 
-// A value of a kind stands for a set of bits that is never empty: the bits that a net may have.
-pub trait Kind: Copy {
+// A value of a kind stands for a set of bits that is never empty: the bits that a net may have. What is made from a bit stands
+// for that bit alone.
+pub trait Kind: Copy + PartialEq + From<bool> {
     // the bits that a value stands for, and what the calls answer
     ghost algebra: { Algebra Self };
 
     // Each answer stands for exactly the bits that bits of the operands give.
     ghost laws: { Laws algebra };
-
-    // What stands for this bit alone.
-    fn of(bit: bool) -> Self
-        ensures { result ≡ algebra.only bit };
 
     fn inverse(self) -> Self
         ensures { result ≡ algebra.opposite self };
@@ -23,6 +20,9 @@ pub trait Kind: Copy {
     fn xor(self, other: Self) -> Self
         ensures { result ≡ algebra.unlike self other };
 
-    fn same(self, other: Self) -> bool
-        ensures { Decides result (self ≡ other) };
+    // `from` gives what stands for its bit alone.
+    ghost from_only: { (bit : Bool) (v : Self) → Self.from_gives bit v → v ≡ algebra.only bit };
+
+    // `==` tells whether two values are the same one.
+    ghost eq_decides: { (v w : Self) → Decides (Self.eq v w) (v ≡ w) };
 }

@@ -2,8 +2,10 @@
 #![tactic(auto)]
 
 mod bits;
+mod bytes;
 mod kind;
 mod three;
 
+pub use bytes::NoValue;
 pub use kind::Kind;
 pub use three::Three;

@@ -1,12 +1,13 @@
 // Three-way values: a bit, or not known which.
 ghost use Rattle.std.specs.Prelude.{◌≡◌};
+ghost use Rattle.std.proofs.Common.{rules};
 ghost use Rattle.values.specs.ThreeLaws.{three_laws};
-ghost use Rattle.values.specs.Threes.{threes, is_one};
+ghost use Rattle.values.specs.Threes.{threes, three_of, is_one};
 
 use crate::kind::Kind;
 
 // `Zero` and `One` stand for their bit alone, and `U` stands for both bits.
-#[derive(Clone, Copy, PartialEq, Eq, Debug)]
+#[derive(Clone, Copy, PartialEq, Eq, Hash, Debug)]
 pub enum Three {
     Zero,
     One,
@@ -17,10 +18,15 @@ impl Three {
     pub fn is_one(self) -> bool
         ensures { result ≡ is_one self }
     {
-        match self {
-            Three::One => true,
-            Three::Zero | Three::U => false,
-        }
+        matches!(self, Three::One)
+    }
+}
+
+impl From<bool> for Three {
+    ghost from_gives = { λ bit r. r ≡ three_of bit };
+
+    fn from(bit: bool) -> Three {
+        if bit { Three::One } else { Three::Zero }
     }
 }
 
@@ -29,9 +35,9 @@ impl Kind for Three {
 
     ghost laws = { three_laws };
 
-    fn of(bit: bool) -> Three {
-        if bit { Three::One } else { Three::Zero }
-    }
+    ghost from_only = { Prim.search rules };
+
+    ghost eq_decides = { Prim.search rules };
 
     fn inverse(self) -> Three {
         match self {
@@ -55,9 +61,5 @@ impl Kind for Three {
             Three::One => self.inverse(),
             Three::U => Three::U,
         }
-    }
-
-    fn same(self, other: Three) -> bool {
-        self == other
     }
 }

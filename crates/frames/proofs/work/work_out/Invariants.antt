@@ -3,4 +3,4 @@ use Rattle.frames.specs.Reworked.{Reworked}
 use Rattle.frames.proofs.work.work_out.Given as goal
 
 abbrev pub invariant-loop-t : goal.invariant-loop-t
-invariant-loop-t g l = Reworked g.K.Kind.algebra l.nets l.hold 0 (l.t * length l.nets) l.initial.cells l.cells
+invariant-loop-t g l = Reworked g.K.Kind.algebra l.rules.nets.now l.rules.hold 0 (l.t * length l.rules.nets.now) l.initial.cells l.cells

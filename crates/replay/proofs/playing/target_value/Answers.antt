@@ -1,3 +1,4 @@
+use Rattle.std.proofs.Common.{get_or, ap, ◌∙◌}
 use Rattle.circuit.specs.Circuits.{nets_of}
 use Rattle.replay.proofs.Targets.{target-is}
 use Rattle.replay.proofs.playing.target_value.Goals as goal
@@ -5,4 +6,7 @@ use Rattle.replay.proofs.playing.target_value.Goals as goal
 pub returns : goal.returns
 returns g c =
     let circuit = c.args.circuit.now in
-    target-is g.K.Kind.algebra (nets_of circuit) circuit.formed c.args.hold c.args.goal c.args.cells.now c.work_out.new.cells c.requires c.work_out.ensures c.len.result c.index-cells-goal.result c.len.ensures.is c.index-cells-goal.is
+    let D = c.work_out.new.cells in
+    let x = c.index-cells-place.result in
+    target-is g.K.Kind.algebra (nets_of circuit) circuit.formed c.args.hold c.args.goal c.args.cells.now D c.requires c.work_out.ensures x
+    (c.index-cells-place.is ∙ ap (λ i. get_or D i x) c.place.ensures)

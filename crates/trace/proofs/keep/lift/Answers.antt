@@ -1,12 +1,8 @@
-use Rattle.std.proofs.Common.{false, map, ap, ◌∙◌, arith}
-use Rattle.std.proofs.lemmas.List.{map_more, take_all}
+use Rattle.std.proofs.Common.{rules}
+use Rattle.std.proofs.lemmas.Iterator.{YieldsList-from_map, YieldsList-from_slice}
+use Rattle.store.proofs.Refilled.{refilled}
 use Rattle.values.specs.Threes.{three_of}
 use Rattle.trace.proofs.keep.lift.Goals as goal
 
-pub loop-bit-preserved : goal.loop-bit-preserved
-loop-bit-preserved c =
-    let more = map_more three_of c.args.solution.now c.loop-bit.bit-index false c.loop-bit-test.true in
-    (cc, omega arith, c.push_reserved.ensures.capacity ∙ c.loop-bit.invariant.2)
-
 pub returns : goal.returns
-returns c = record { items = c.loop-bit.invariant.0 ∙ ap (map three_of) (take_all c.loop-bit.bit-index c.args.solution.now c.loop-bit-test.false); capacity = c.loop-bit.invariant.2 ∙ c.clear.ensures.capacity }
+returns c = refilled _ c.refill.ensures.ran (YieldsList-from_map _ three_of (YieldsList-from_slice c.args.solution.now cc) c.map.ensures.closure (λ x r q k. search rules))

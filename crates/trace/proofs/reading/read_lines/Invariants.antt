@@ -1,4 +1,4 @@
-use Rattle.std.proofs.Common.{◌≡◌, ◌+◌, [], length, vec_items, vec_len, vec_capacity}
+use Rattle.std.proofs.Common.{◌≡◌, ◌+◌, [], length}
 use Rattle.circuit.specs.Named.{names_in}
 use Rattle.trace.specs.Coming.{left}
 use Rattle.trace.specs.Readings.{read_on}
@@ -6,9 +6,7 @@ use Rattle.trace.proofs.reading.read_lines.Given as goal
 
 abbrev pub invariant-loop-entry : goal.invariant-loop-entry
 invariant-loop-entry l =
-    (read_on (names_in l.names) (vec_items l.values) (left l.entries) l.rest ≡ read_on (names_in l.names) [] (left l.initial.entries) l.text)
-    × (vec_len l.values + length (left l.entries) ≡ length (left l.initial.entries))
-    × (vec_capacity l.values ≡ vec_capacity l.initial.values)
-
-abbrev pub decreases-loop-entry : goal.decreases-loop-entry
-decreases-loop-entry l = length (left l.entries)
+    record {
+      is : read_on (names_in l.names) l.values (left l.entry-iterator) l.rest ≡ read_on (names_in l.names) [] (left l.fn.entries) l.text;
+      few : length l.values + length (left l.entry-iterator) ≡ length (left l.fn.entries);
+    }

@@ -1,4 +1,4 @@
-use Rattle.std.proofs.Common.{◌∷◌, ◌∙◌, subst}
+use Rattle.std.proofs.Common.{◌∷◌, subst}
 use Rattle.circuit.specs.Named.{names_in}
 use Rattle.trace.specs.Texts.{head, feed}
 use Rattle.sinks.specs.Sinks.{Puts}
@@ -6,11 +6,10 @@ use Rattle.sinks.proofs.Puttings.{puts-then, puts-out}
 use Rattle.trace.proofs.writing.put_line.Goals as goal
 
 pub returns-in_err-put_head : goal.returns-in_err-put_head
-returns-in_err-put_head g c =
-    let m = g.S.Sink.meaning in
-    record { puts = puts-out (m c.args.sink.now) (m c.put_head.new.sink) (head (names_in c.args.names) c.args.entry) _ c.from_residual.result c.from_residual.ensures.0 c.in_err-put_head.ensures.puts; home = c.put_head.ensures.home }
+returns-in_err-put_head g c = puts-out _ _ _ _ _ c.from_residual.result c.from_residual.ensures.0 c.in_err-put_head.ensures
 
 pub returns : goal.returns
 returns g c =
     let m = g.S.Sink.meaning in
-    record { puts = puts-then (m c.args.sink.now) (m c.put_head.new.sink) (m c.put.new.self) (head (names_in c.args.names) c.args.entry) _ c.put.result c.in_ok-put_head.ensures.puts (subst (λ b. Puts (m c.put_head.new.sink) (m c.put.new.self) (b ∷ feed) c.put.result) c.byte_of.ensures c.put.ensures.puts); home = c.put.ensures.home ∙ c.put_head.ensures.home }
+    puts-then _ _ _ (head (names_in c.args.names) c.args.entry) _ _ c.put.result c.in_ok-put_head.ensures
+    (subst (λ b. Puts (m c.put_head.new.sink) (m c.put.new.self) (b ∷ feed) c.put.result) c.from.ensures c.put.ensures)

@@ -1,4 +1,4 @@
-use Rattle.std.proofs.Common.{vec_items, sym, ◌∙◌, arith}
+use Rattle.std.proofs.Common.{sym, ◌∙◌, arith}
 use Rattle.circuit.specs.Drafts.{state_of}
 use Rattle.circuit.specs.Reading.{named}
 use Rattle.circuit.proofs.Gathering.{count}
@@ -10,11 +10,6 @@ invariant_of-self-else-is_err c =
     let text = c.args.text.now in
     let nets = c.read-r.new.nets in
     let listing = c.read-r.new.self in
-    let all = named (state_of text listing).names (vec_items nets) in
-    let p = reading-sound text all (sym c.read-r.ensures.is ∙ ok-outcome c.read-r.result all c.if-is_err.ensures.value) in
-    record {
-      room = omega (arith, c.read-r.ensures.room, c.clear.ensures.capacity, c.args.self.now.room);
-      few = omega (arith, p.few, nets.ok.0);
-      formed = p.formed;
-      named = omega (arith, p.level, count text listing, nets.ok.0);
-    }
+    let all = named (state_of text listing).names nets in
+    let p = reading-sound text all (sym c.read-r.ensures ∙ ok-outcome c.read-r.result all c.if-is_err.ensures.value) in
+    record { few = p.few; formed = p.formed; named = omega (arith, p.level, count text listing) }

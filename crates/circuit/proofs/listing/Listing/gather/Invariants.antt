@@ -1,4 +1,4 @@
-use Rattle.std.proofs.Common.{◌≡◌, ◌+◌, length, vec_len}
+use Rattle.std.proofs.Common.{◌≡◌, ◌+◌, length}
 use Rattle.text.specs.Readers.{left}
 use Rattle.circuit.specs.Drafts.{state_of}
 use Rattle.circuit.specs.Reading.{gathered}
@@ -7,7 +7,7 @@ use Rattle.circuit.proofs.listing.Listing.gather.Given as goal
 abbrev pub invariant-loop-line : goal.invariant-loop-line
 invariant-loop-line l =
     (gathered (state_of l.text l.self) (left l.lines) ≡ gathered (state_of l.text l.initial.self) l.text)
-    × (l.lines.line ≡ vec_len l.self.names + 1)
+    × (l.lines.line ≡ length l.self.entries + 1)
     × (l.lines.text.now ≡ l.text)
 
 abbrev pub decreases-loop-line : goal.decreases-loop-line

@@ -13,6 +13,6 @@ returns c =
     let text = c.args.text.now in
     let ks = nets_of r.circuit in
     let out = c.args.out.now in
-    let answer : c.write_named.result ≡ writes (reading text) ks (held_trace r) (length out) = search rules in
-    let after : c.write_named.new.out ≡ written (held_text (reading text) ks (held_trace r)) out c.write_named.result = search rules in
-    record { answer = answer; out = after; back = back text ks (held_trace r) out c.write_named.new.out c.write_named.result (held-fits r) answer after; spare = search rules }
+    let answer : c.write.result ≡ writes (reading text) ks (held_trace r) (length out) = search rules in
+    let after : c.write.new.out ≡ written (held_text (reading text) ks (held_trace r)) out c.write.result = search rules in
+    record { answer = answer; out = after; back = back text ks (held_trace r) out c.write.new.out c.write.result (held-fits r) answer after; spare = search rules }

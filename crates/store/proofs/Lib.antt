@@ -1,0 +1,2 @@
+pub mod Rewritten
+pub mod Refilled
