@@ -12,3 +12,4 @@ pub mod Reading
 pub mod Written
 pub mod Drafts
 pub mod Accepts
+pub mod Sentences

@@ -1,6 +1,7 @@
 // Why a circuit text is refused.
 ghost use Rattle.std.specs.Prelude.{◌≡◌, ◌<◌, length};
 ghost use Rattle.circuit.specs.Faults.{number_of, fault};
+ghost use Rattle.circuit.specs.Sentences.{sentence_of};
 
 use std::error::Error;
 use std::fmt;
@@ -32,7 +33,8 @@ impl Refusal {
 
     // What is wrong, and what to do about it.
     fn sentence(self) -> &'static str
-        ensures { 0 < length result.now }
+        ensures is { result.now ≡ sentence_of self }
+        ensures words { 0 < length result.now }
     {
         match self {
             Refusal::TextTooLong =>
@@ -74,7 +76,8 @@ impl ReadFault {
 
     // What is wrong, and what to do about it.
     pub fn sentence(self) -> &'static str
-        ensures { 0 < length result.now }
+        ensures is { result.now ≡ sentence_of self.refusal }
+        ensures words { 0 < length result.now }
     {
         self.refusal.sentence()
     }
@@ -82,6 +85,10 @@ impl ReadFault {
 
 // The sentence for a reader, without the line.
 impl fmt::Display for ReadFault {
+    ghost use Rattle.std.specs.Prelude.{Some};
+
+    ghost output = { λ fault. Some (sentence_of fault.refusal) };
+
     fn fmt<W: fmt::Write>(&self, f: &mut fmt::Formatter<W>) -> fmt::Result {
         f.write_str(self.sentence())
     }

@@ -49,17 +49,16 @@ impl Rules<'_> {
         ensures reworked { Reworked K.algebra self.now.nets.now self.now.hold (t * length self.now.nets.now + from) (t * length self.now.nets.now + length self.now.nets.now) cells.old cells.new }
         ensures same { result ≡ false → cells.new ≡ cells.old }
     {
+        // a copy, so that the loop need not read the rules again after each cell that it writes
+        let rules = *self;
         let mut changed = false;
         // by number, since a net's number says where its cell stands
-        for n in from..self.nets.len() {
-            let place = Place {
-                rules: *self,
-                cells,
-                t,
-                n,
-            };
+        for n in from..rules.nets.len() {
+            let place = Place { rules, cells, t, n };
             let v = place.value();
-            changed |= replace(cells, self.place(t, n), v);
+            if replace(cells, rules.place(t, n), v) {
+                changed = true;
+            }
         }
         changed
     }

@@ -3,3 +3,4 @@ pub mod Answers
 pub mod Law
 pub mod Replayers
 pub mod Words
+pub mod Sentences

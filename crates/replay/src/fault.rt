@@ -1,6 +1,7 @@
 // Why a replay is refused.
 ghost use Rattle.std.specs.Prelude.{◌≡◌, ◌<◌, length};
 ghost use Rattle.replay.specs.Faults.{fault_number, fault_line};
+ghost use Rattle.replay.specs.Sentences.{fault_sentence};
 ghost use Rattle.replay.specs.declared.fault.ReplayFault.TheVariants.{Circuit, Trace};
 
 use circuit::fault::ReadFault;
@@ -57,7 +58,8 @@ impl ReplayFault {
 
     // What is wrong, and what to do about it.
     pub fn sentence(self) -> &'static str
-        ensures { 0 < length result.now }
+        ensures is { result.now ≡ fault_sentence self }
+        ensures words { 0 < length result.now }
     {
         match self {
             ReplayFault::Circuit(fault) => fault.sentence(),
@@ -70,6 +72,10 @@ impl ReplayFault {
 }
 
 impl fmt::Display for ReplayFault {
+    ghost use Rattle.std.specs.Prelude.{Some};
+
+    ghost output = { λ fault. Some (fault_sentence fault) };
+
     fn fmt<W: fmt::Write>(&self, f: &mut fmt::Formatter<W>) -> fmt::Result {
         f.write_str(self.sentence())
     }

@@ -1,10 +1,9 @@
--- A list that was filled anew by a chain of iterators.
-use Rattle.std.proofs.Common.{◌≡◌, List, Option, sym, ◌∙◌, map-id}
-use Rattle.std.specs.Iterator.{Drains}
-use Rattle.std.proofs.lemmas.Iterator.{YieldsList, items_from_drains}
+-- A list that was filled anew from a slice.
+use Rattle.std.proofs.Common.{◌≡◌, ◌≤◌, ℕ, List, length, map, take, ap, ◌∙◌}
+use Rattle.std.specs.List.{AllZip}
+use Rattle.std.proofs.lemmas.List.{take_all}
+use Rattle.std.proofs.lemmas.Slice.Zip.{AllZip-map}
 
--- it has what the chain gives
-pub refilled : {S A : Type 0} {steps : S → Option A → S → Type 0} {s : S} {all : List A} (new : List A) → ((xs : List A) × Drains steps s xs × (new ≡ xs)) → YieldsList steps (λ x. x) s all → new ≡ all
-refilled new ran chain =
-    let drains = ran.1 in
-    ran.2 ∙ sym (map-id ran.0) ∙ items_from_drains ran.0 (drains.1.0, drains.1.1, λ u. (drains.0, drains.1.2)) chain
+-- it has what is made from each item, where there is room for all
+pub refilled : {A B : Type 0} {n : ℕ} (v : A → B) (items : List A) (new : List B) → length items ≤ n → AllZip (λ x y. y ≡ v x) (take n items) new → new ≡ map v items
+refilled {n = n} v items new few made = AllZip-map v (take n items) new made ∙ ap (map v) (take_all n items few)

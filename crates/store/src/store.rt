@@ -1,8 +1,7 @@
 // A list whose room is taken when it is made.
-ghost use Rattle.std.specs.Prelude.{◌≡◌, ◌<◌, ◌≤◌, [], ◌∷◌, ◌++◌, length, replicate, IfOk, List};
+ghost use Rattle.std.specs.Prelude.{◌≡◌, ◌<◌, ◌≤◌, [], ◌∷◌, ◌++◌, length, replicate, take, IfOk, List};
 ghost use Rattle.std.specs.Borrow.{sem};
-ghost use Rattle.std.specs.Iterator.{UpTo, Drains};
-ghost use Rattle.std.specs.Iterator.Runs.{WholeRun};
+ghost use Rattle.std.specs.List.{AllZip};
 
 use std::alloc::{AllocError, Global};
 use std::marker::Model;
@@ -60,39 +59,42 @@ impl<T, const N: usize> Store<T, N> {
         self.items.clear();
     }
 
-    // Puts an item at the end.
+    // Puts an item at the end where there is room for one more. A full list stays as it is.
     pub fn push(&mut self, item: T)
-        requires { length self.old < N }
-        ensures { self.new ≡ self.old ++ item ∷ [] }
+    where
+        T: Drop,
+        ensures room { length self.old < N → self.new ≡ self.old ++ item ∷ [] }
+        ensures full { N ≤ length self.old → self.new ≡ self.old }
     {
-        self.items.push_reserved(item);
+        if self.len() < N {
+            self.items.push_reserved(item);
+        }
     }
 
-    // Puts `count` times the same item in place of all items: apart from `refill`, since `resize` promises to succeed within
-    // the capacity.
+    // Puts `count` times the same item in place of all items, `N` times where there is room for no more: apart from `refill`,
+    // since `resize` promises to succeed within the capacity.
     pub fn refill_with(&mut self, count: usize, item: T)
     where
         T: Copy,
-        requires { count ≤ N }
-        ensures { self.new ≡ replicate count item }
+        ensures room { count ≤ N → self.new ≡ replicate count item }
+        ensures full { N ≤ count → self.new ≡ replicate N item }
     {
         self.clear();
         // It cannot fail: there is room for `N`.
-        let _ = self.items.resize(count, item);
+        let _ = self.items.resize(count.min(N), item);
     }
 
-    // Puts the items that come in place of all items. Not by `extend`, which does not promise to succeed where there is room.
-    pub fn refill<I: Iterator<Item = T> + Drop>(&mut self, items: I)
+    // Puts what is made from the items of a slice in place of all items, from as many as there is room for. From a slice, since
+    // an iterator may ask for something before it gives its next item, and a call that takes it would ask for the same.
+    pub fn refill<U: Copy>(&mut self, items: &[U])
     where
-        T: Drop,
-        requires can { I.can_next items }
-        requires few { UpTo (I.remaining items) N }
-        ensures ran { (xs : List T) × Drains I.next_gives items xs × (self.new ≡ xs) }
-        ensures runs { WholeRun I.next_gives items (λ p. self.new ≡ p.items) }
+        T: From<U> + Drop,
+        ensures { AllZip T.from_gives (take N items.now) self.new }
     {
+        let some = items.get(..N).unwrap_or(items);
         self.clear();
-        for item in items {
-            self.push(item);
+        for item in some {
+            self.push(T::from(*item));
         }
     }
 

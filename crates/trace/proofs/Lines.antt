@@ -10,9 +10,9 @@ abbrev pub Over : List Entry → List Three → Type 0
 Over es vs = (es ≡ []) ⊎ (vs ≡ [])
 
 -- where a loop over both ends
-pub over : {A B : Type 0} {P : A → Type 0} {Q : B → Type 0} (es : List Entry) (vs : List Three) → ((x : A) × ((es ≡ []) × P x)) ⊎ ((y : B) × ((length vs ≡ 0) × Q y)) → Over es vs
-over es vs (inl h) = inl h.1.0
-over es vs (inr h) = inr (nil_from_length vs h.1.0)
+pub over : {A B : Type 0} {P : A → Type 0} {Q : B → Type 0} (es : List Entry) (vs : List Three) → ((y : B) × ((length vs ≡ 0) × Q y)) ⊎ ((x : A) × ((es ≡ []) × P x)) → Over es vs
+over es vs (inl h) = inr (nil_from_length vs h.1.0)
+over es vs (inr h) = inl h.1.0
 
 pub line-front : (ns : List (List ℕ)) (es rest : List Entry) (vs more : List Three) (e : Entry) (v : Three) → (es ≡ e ∷ rest) × (vs ≡ v ∷ more) → lines ns es vs ≡ line ns e v ++ lines ns rest more
 line-front ns es rest vs more e v is = λ i. lines ns (is.0 i) (is.1 i)

@@ -16,3 +16,4 @@ pub mod Keeping
 pub mod Laid
 pub mod Aims
 pub mod Scripts
+pub mod Sentences

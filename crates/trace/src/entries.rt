@@ -63,6 +63,7 @@ impl Iterator for Entries<'_> {
 
     ghost remaining = { item_count left };
 
+    #[inline]
     fn next(&mut self) -> Option<Entry> {
         if let Some(entry) = self.in_row() {
             return Some(entry);

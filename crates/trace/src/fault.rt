@@ -1,6 +1,7 @@
 // Why a trace is not written or not read.
 ghost use Rattle.std.specs.Prelude.{◌≡◌, ◌<◌, length};
 ghost use Rattle.trace.specs.Faults.{trace_number, trace_line, write_number, write_line};
+ghost use Rattle.trace.specs.Sentences.{trace_sentence};
 ghost use Rattle.trace.specs.declared.fault.WriteFault.TheVariants.{Circuit, Short};
 
 use circuit::fault::ReadFault;
@@ -88,7 +89,8 @@ impl TraceFault {
 
     // What is wrong, and what to do about it.
     pub fn sentence(self) -> &'static str
-        ensures { 0 < length result.now }
+        ensures is { result.now ≡ trace_sentence self }
+        ensures words { 0 < length result.now }
     {
         match self {
             TraceFault::FirstLine => {
@@ -102,6 +104,10 @@ impl TraceFault {
 }
 
 impl fmt::Display for TraceFault {
+    ghost use Rattle.std.specs.Prelude.{Some};
+
+    ghost output = { λ fault. Some (trace_sentence fault) };
+
     fn fmt<W: fmt::Write>(&self, f: &mut fmt::Formatter<W>) -> fmt::Result {
         f.write_str(self.sentence())
     }

@@ -15,6 +15,11 @@ pub struct Goal {
 pub struct NotOn;
 
 impl fmt::Display for NotOn {
+    ghost use Rattle.std.specs.Prelude.{Some};
+    ghost use Rattle.trace.specs.Sentences.{not_on};
+
+    ghost output = { λ _. Some not_on };
+
     fn fmt<W: fmt::Write>(&self, f: &mut fmt::Formatter<W>) -> fmt::Result {
         write!(f, "the target is off in the last frame")
     }

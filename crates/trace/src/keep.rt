@@ -99,7 +99,7 @@ fn lift(solution: &[bool], cells: &mut Store<Three, MOST_CELLS>)
     requires { length solution.now ≤ 16384 }
     ensures { cells.new ≡ map three_of solution.now }
 {
-    cells.refill(solution.iter().map(|bit| Three::from(*bit)));
+    cells.refill(solution);
 }
 
 impl Recording {

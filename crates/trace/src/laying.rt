@@ -27,7 +27,8 @@ impl Recording {
             return;
         };
         let entries = Entries::new(&self.circuit, trace.goal.last);
-        for (entry, value) in entries.zip(trace.values) {
+        // the values first: where they end, no further entry is looked for
+        for (value, entry) in trace.values.iter().zip(entries) {
             put_cell(cells, entry.place(&self.circuit), *value);
         }
     }

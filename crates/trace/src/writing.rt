@@ -66,7 +66,8 @@ fn put_lines<S: Sink>(
 ) -> Result<(), Refused>
     ensures { Puts (S.meaning sink.old) (S.meaning sink.new) (lines (names_in names.entry) (left entries.entry) values.now) result }
 {
-    for (entry, value) in entries.zip(values) {
+    // the values first: where they end, no further entry is looked for
+    for (value, entry) in values.iter().zip(entries) {
         put_line(sink, names, entry, *value)?;
     }
     Ok(())

@@ -30,6 +30,15 @@ impl From<bool> for Three {
     }
 }
 
+// Whether it is 1 for certain.
+impl From<Three> for bool {
+    ghost from_gives = { λ value r. r ≡ is_one value };
+
+    fn from(value: Three) -> bool {
+        value.is_one()
+    }
+}
+
 impl Kind for Three {
     ghost algebra = { threes };
 

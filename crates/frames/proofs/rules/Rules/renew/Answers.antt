@@ -7,7 +7,7 @@ pub loop-n-preserved : goal.loop-n-preserved
 loop-n-preserved g c =
     let rules = c.args.self.now in
     record {
-      reworked = one-more g.K.Kind.algebra rules.nets.now rules.formed rules.hold (c.args.t * length rules.nets.now + c.args.from) c.args.t c.loop-n.n c.args.cells.now c.loop-n.cells c.replace-changed.new.cells c.value-v.result
-          (omega arith) (omega arith) (omega arith) c.loop-n.invariant.reworked c.value-v.ensures (rw c.place.ensures at c.replace-changed.ensures.is);
-      same = grind (arith, common_steps, c.loop-n.invariant.same, c.replace-changed.ensures.same);
+      reworked = one-more g.K.Kind.algebra rules.nets.now rules.formed rules.hold (c.args.t * length rules.nets.now + c.args.from) c.args.t c.loop-n.n c.args.cells.now c.loop-n.cells c.replace.new.cells c.value-v.result
+          (omega arith) (omega arith) (omega arith) c.loop-n.invariant.reworked c.value-v.ensures (rw c.place.ensures at c.replace.ensures.is);
+      same = grind (arith, common_steps, c.loop-n.invariant.same, c.replace.ensures.same);
     }
