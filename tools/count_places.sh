@@ -1,6 +1,6 @@
 #!/usr/bin/env bash
-# Lists, in src/, the places where an older form may stand: by point, one line a place. docs/DESIGN-PASS.md says what
-# became of each. Run at the top of the repository; `-c` prints the counts alone.
+# Lists, in src/, the places where an older form may stand: by point, one line a place. docs/DESIGN-PASS.md has
+# the counts of the commit before. Run at the top of the repository; `-c` prints the counts alone.
 set -u
 src=$(ls crates/*/src/*.rt)
 say() { # NAME: the lines on standard input
