@@ -49,7 +49,7 @@ impl Listing {
         self.one_more(number)?;
         let known = self.lookup(line.text());
         let entry = known.judge(line).map_err(|refusal| refusal.at(number))?;
-        self.entries.push(entry);
+        self.entries.push_if_room(entry);
         Ok(())
     }
 

@@ -32,7 +32,7 @@ impl Lookup<'_, '_> {
         for entry in self.entries {
             // The list so far is the count of lines.
             let kind = self.settle(entry.draft, nets.len() + 1)?;
-            nets.push(kind);
+            nets.push_if_room(kind);
         }
         Ok(())
     }

@@ -31,7 +31,7 @@ pub(crate) fn lay(recording: &Recording, cells: &mut Cells<Three>, count: usize)
 fn lower(bits: &mut Cells<bool>, cells: &Cells<Three>)
     ensures { bits.new ≡ map is_one cells.now }
 {
-    bits.refill(cells.as_slice());
+    bits.refill_from_slice(cells.as_slice());
 }
 
 // Works out the frames, and tells the target's value in the last one.

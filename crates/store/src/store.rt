@@ -1,6 +1,8 @@
 // A list whose room is taken when it is made.
 ghost use Rattle.std.specs.Prelude.{◌≡◌, ◌<◌, ◌≤◌, [], ◌∷◌, ◌++◌, length, replicate, take, IfOk, List};
 ghost use Rattle.std.specs.Borrow.{sem};
+ghost use Rattle.std.specs.Iterator.{UpTo, Drains};
+ghost use Rattle.std.specs.Iterator.Runs.{WholeRun};
 ghost use Rattle.std.specs.List.{AllZip};
 
 use std::alloc::{AllocError, Global};
@@ -59,8 +61,16 @@ impl<T, const N: usize> Store<T, N> {
         self.items.clear();
     }
 
-    // Puts an item at the end where there is room for one more. A full list stays as it is.
+    // Puts an item at the end, of any type: it asks for room, where `push_if_room` would let the item go.
     pub fn push(&mut self, item: T)
+        requires { length self.old < N }
+        ensures { self.new ≡ self.old ++ item ∷ [] }
+    {
+        Vec::push_reserved(&mut self.items, item);
+    }
+
+    // Puts an item at the end where there is room for one more. A full list stays as it is.
+    pub fn push_if_room(&mut self, item: T)
     where
         T: Drop,
         ensures room { length self.old < N → self.new ≡ self.old ++ item ∷ [] }
@@ -84,9 +94,25 @@ impl<T, const N: usize> Store<T, N> {
         let _ = self.items.resize(count.min(N), item);
     }
 
-    // Puts what is made from the items of a slice in place of all items, from as many as there is room for. From a slice, since
-    // an iterator may ask for something before it gives its next item, and a call that takes it would ask for the same.
-    pub fn refill<U: Copy>(&mut self, items: &[U])
+    // Puts the items that come in place of all items. It asks for room, and for what the iterator asks before it gives its next
+    // item. Not by `extend`, which does not promise to succeed where there is room.
+    pub fn refill<I: Iterator<Item = T> + Drop>(&mut self, items: I)
+    where
+        T: Drop,
+        requires can { I.can_next items }
+        requires few { UpTo (I.remaining items) N }
+        ensures ran { (xs : List T) × Drains I.next_gives items xs × (self.new ≡ xs) }
+        ensures runs { WholeRun I.next_gives items (λ p. self.new ≡ p.items) }
+    {
+        self.clear();
+        for item in items {
+            self.push(item);
+        }
+    }
+
+    // Puts what is made from the items of a slice in place of all items, from as many as there is room for. From a slice, whose
+    // items are there, so that it asks for nothing.
+    pub fn refill_from_slice<U: Copy>(&mut self, items: &[U])
     where
         T: From<U> + Drop,
         ensures { AllZip T.from_gives (take N items.now) self.new }
@@ -94,7 +120,7 @@ impl<T, const N: usize> Store<T, N> {
         let some = items.get(..N).unwrap_or(items);
         self.clear();
         for item in some {
-            self.push(T::from(*item));
+            self.push_if_room(T::from(*item));
         }
     }
 

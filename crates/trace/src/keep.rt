@@ -89,7 +89,7 @@ impl<'a> Aim<'a> {
     {
         values.clear();
         for entry in Entries::new(self.circuit, self.goal.last) {
-            values.push(cells[entry.place(self.circuit)]);
+            values.push_if_room(cells[entry.place(self.circuit)]);
         }
     }
 }
@@ -99,7 +99,7 @@ fn lift(solution: &[bool], cells: &mut Store<Three, MOST_CELLS>)
     requires { length solution.now ≤ 16384 }
     ensures { cells.new ≡ map three_of solution.now }
 {
-    cells.refill(solution);
+    cells.refill_from_slice(solution);
 }
 
 impl Recording {

@@ -131,7 +131,7 @@ pub(crate) fn read_lines(
     for entry in entries {
         let line = values.len() + 2;
         let taken = take_line(names, entry, rest).ok_or(TraceFault::LaterLine(line))?;
-        values.push(taken.value);
+        values.push_if_room(taken.value);
         rest = taken.rest;
     }
     if rest.is_empty() {

@@ -1,18 +1,13 @@
-use Rattle.std.proofs.Common.{rules, ◌∷◌, ◌++◌, [], ◌≤◌, length, take, sym, ap, ◌∙◌, subst, arith, length-append}
-use Rattle.std.specs.List.{AllZip}
-use Rattle.std.proofs.lemmas.List.{take_more}
-use Rattle.std.proofs.lemmas.Slice.Zip.{all_zipped_more}
+use Rattle.std.proofs.Common.{◌≡◌, subst}
+use Rattle.std.proofs.iter.runs.Consumers.{total_runs}
+use Rattle.std.specs.Iterator.{Yields, Drains}
 use Rattle.store.proofs.store.Store.refill.Goals as goal
 
-pub loop-item-preserved : goal.loop-item-preserved
-loop-item-preserved g c =
-    let R = g.T.From.from_gives in
-    let some = c.unwrap_or-some.result.now in
-    let i = c.loop-item.item-index in
-    let few : length some ≤ g.row.N = search rules in
-    let longer = c.push.ensures.room (omega (arith, few, c.loop-item.invariant.1, c.loop-item-test.true)) in
-    let zipped = all_zipped_more R (take i some) c.loop-item.self c.item-item.result c.from.result c.loop-item.invariant.0 c.from.ensures in
-    let front = take_more some i c.item-item.result c.loop-item-test.true ∙ ap (λ x. take i some ++ x ∷ []) (sym c.item-item.is) in (
-      subst (λ xs. AllZip R xs c.push.new.self) (sym front) (subst (AllZip R (take i some ++ c.item-item.result ∷ [])) (sym longer) zipped),
-      omega (arith, ap length longer, length-append c.loop-item.self (c.from.result ∷ []), c.loop-item.invariant.1),
-    )
+pub returns : goal.returns
+returns g c =
+    let steps = g.I.Iterator.next_gives in
+    let from = subst (λ s. Yields steps s c.loop-item.yielded c.loop-item.item-iterator) c.into_iter-item-iterator.ensures.into_iter_gives c.loop-item.yielded_by in
+    let ended = subst (λ r. steps c.loop-item.item-iterator r c.next.new.self) c.in-None.is c.next.ensures.steps in
+    let drained : Drains steps c.args.items c.loop-item.yielded = (c.next.new.self, (c.loop-item.item-iterator, from, ended)) in
+    let run = total_runs steps c.args.items (Unit {0}) (λ xs. c.loop-item.self ≡ xs) (c.loop-item.yielded, (λ _. drained), c.loop-item.invariant.0) tt in
+    record { ran = (c.loop-item.yielded, drained, c.loop-item.invariant.0); runs = run }

@@ -1,6 +1,8 @@
-use Rattle.std.proofs.Common.{◌≡◌, length, take}
-use Rattle.std.specs.List.{AllZip}
+use Rattle.std.proofs.Common.{◌≡◌, ◌≤◌, length, ◌+◌}
+use Rattle.std.specs.Iterator.{items_left}
 use Rattle.store.proofs.store.Store.refill.Given as goal
 
 abbrev pub invariant-loop-item : goal.invariant-loop-item
-invariant-loop-item g l = AllZip g.T.From.from_gives (take l.item-index l.some) l.self × (length l.self ≡ l.item-index)
+invariant-loop-item g l =
+    (l.self ≡ l.yielded)
+    × (length l.yielded + items_left g.I.Iterator.remaining l.item-iterator ≤ items_left g.I.Iterator.remaining l.fn.items)

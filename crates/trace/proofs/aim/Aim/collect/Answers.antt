@@ -36,7 +36,7 @@ loop-entry-preserved c =
     let rest = left c.next.new.self in
     let here = c.in-Some.ensures.steps in
     let value = ap (λ i. get_or c.args.cells.now i Zero) c.place.ensures in
-    let longer = c.push.ensures.room (omega (arith, ap length here, c.loop-entry.invariant.few)) in
+    let longer = c.push_if_room.ensures.room (omega (arith, ap length here, c.loop-entry.invariant.few)) in
     record {
       is = ap (λ ws. ws ++ map f rest) longer ∙ append_assoc vs _ (map f rest) ∙ ap (λ v. vs ++ v ∷ map f rest) value ∙ ap (λ es. vs ++ map f es) (sym here) ∙ c.loop-entry.invariant.is;
       few = omega (arith, simp length-append at (ap length longer), ap length here, c.loop-entry.invariant.few);
